@@ -1,0 +1,3 @@
+mod book;
+
+pub use book::Book;
