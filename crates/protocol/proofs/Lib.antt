@@ -1,0 +1,14 @@
+pub mod Said
+pub mod Counting
+pub mod Lists
+pub mod Room
+pub mod Invariant
+pub mod Propose
+pub mod Receive
+pub mod Hear
+pub mod Sync
+pub mod Notice
+pub mod Change
+pub mod Runs
+pub mod Conclusion
+pub mod Same

@@ -1,0 +1,14 @@
+pub mod Tests
+pub mod Counts
+pub mod Votes
+pub mod Written
+pub mod Answers
+pub mod Outcomes
+pub mod Settings
+pub mod State
+pub mod Refusals
+pub mod Steps
+pub mod Histories
+pub mod Promise
+pub mod Confirms
+pub mod Cases

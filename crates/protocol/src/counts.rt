@@ -1,0 +1,38 @@
+ghost use mathlib.Core.Path.{_≡_};
+ghost use Rattle.protocol.specs.Counts.{tolerated, electing, confirming, recovering, blocking-number};
+
+// How many of `size` boxes may fail.
+pub fn faults(size: u32) -> u32
+    ensures { λ r. ⌜ r ≡ tolerated size ⌝ }
+{
+    size / 2
+}
+
+// How many voters a change of leader names.
+pub fn vote_quorum(size: u32) -> u32
+    ensures { λ r. ⌜ r ≡ electing size ⌝ }
+{
+    faults(size) + 1
+}
+
+// How many agreeing answers of one epoch confirm a job.
+pub fn fast_quorum(size: u32) -> u32
+    ensures { λ r. ⌜ r ≡ confirming size ⌝ }
+{
+    let f = faults(size);
+    f + (f + 1) / 2 + 1
+}
+
+// How many of the voters' pools recover a job.
+pub fn recovery_quorum(size: u32) -> u32
+    ensures { λ r. ⌜ r ≡ recovering size ⌝ }
+{
+    (faults(size) + 1) / 2 + 1
+}
+
+// How many answers of no rule the fast way out.
+pub fn blocking(size: u32) -> u32
+    ensures { λ r. ⌜ r ≡ blocking-number size ⌝ }
+{
+    size.saturating_sub(fast_quorum(size)) + 1
+}

@@ -1,0 +1,25 @@
+mod answers;
+mod calls;
+mod counts;
+mod setting;
+mod theorem;
+mod voters;
+
+pub use answers::Answer;
+pub use answers::Phase;
+pub use answers::Reply;
+pub use calls::Call;
+pub use calls::Changed;
+pub use calls::Received;
+pub use calls::Status;
+pub use calls::Synced;
+pub use counts::blocking;
+pub use counts::fast_quorum;
+pub use counts::faults;
+pub use counts::recovery_quorum;
+pub use counts::vote_quorum;
+pub use setting::Setting;
+pub use voters::Voters;
+pub use theorem::cases;
+pub use theorem::confirmations_happen;
+pub use theorem::confirmations_stand;

@@ -1,0 +1,41 @@
+ghost use mathlib.Core.Path.{_≡_};
+ghost use mathlib.Core.Bool.{false, cond};
+ghost use Prim.Native.Nat.{ℕ};
+ghost use Rattle.protocol.specs.Votes.{votes, adds};
+
+// A set of voters, by the digits 0 to 9.
+#[derive(Clone, Copy)]
+pub struct Voters {
+    named: [bool; 10],
+}
+
+impl Voters {
+    pub fn none() -> Voters
+        ensures { λ r. ⌜ ((d : ℕ) → votes r d ≡ false) ⌝ }
+    {
+        Voters {
+            named: [false; 10],
+        }
+    }
+
+    // The set with one digit more; a number above 9 adds nothing.
+    pub fn with(self, digit: u32) -> Voters
+        ensures { λ r. ⌜ ((d : ℕ) → votes r d ≡ adds (votes self) digit d) ⌝ }
+    {
+        let mut named = self.named;
+        if digit < 10 {
+            named[digit as usize] = true;
+        }
+        Voters { named }
+    }
+
+    pub fn has(&self, digit: u32) -> bool
+        ensures { λ r. ⌜ r ≡ votes (now (self .entry)) digit ⌝ }
+    {
+        if digit < 10 {
+            self.named[digit as usize]
+        } else {
+            false
+        }
+    }
+}
