@@ -5,9 +5,13 @@ use crate::answers::PhaseDebug;
 use crate::answers::PhasePartialEq;
 use crate::voters::Voters;
 use base::Record;
+use base::RecordDebug;
+use base::RecordPartialEq;
+use crate::voters::VotersDebug;
+use crate::voters::VotersPartialEq;
 
 // What can be asked of a group. Replicas and jobs go by their numbers, from 0; any number may be named.
-#[derive(Clone, Copy)]
+#[derive(Clone, Copy, PartialEq, Eq, Debug)]
 pub enum Call {
     Propose(Record),
     Receive { replica: u32, job: u32 },

@@ -4,7 +4,7 @@ ghost use Prim.Native.Nat.{ℕ};
 ghost use Rattle.protocol.specs.Votes.{votes, adds};
 
 // A set of voters, by the digits 0 to 9.
-#[derive(Clone, Copy)]
+#[derive(Clone, Copy, PartialEq, Eq, Debug)]
 pub struct Voters {
     named: [bool; 10],
 }
