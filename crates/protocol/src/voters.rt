@@ -1,7 +1,5 @@
 ghost use mathlib.Core.Path.{_≡_};
-ghost use mathlib.Core.Bool.{false, cond};
-ghost use Prim.Native.Nat.{ℕ};
-ghost use Rattle.protocol.specs.Votes.{votes, adds};
+ghost use Rattle.protocol.specs.Votes.{votes, no-voters, with-voter};
 
 // A set of voters, by the digits 0 to 9.
 #[derive(Clone, Copy, PartialEq, Eq, Debug)]
@@ -11,7 +9,7 @@ pub struct Voters {
 
 impl Voters {
     pub fn none() -> Voters
-        ensures { λ r. ⌜ ((d : ℕ) → votes r d ≡ false) ⌝ }
+        ensures { λ r. ⌜ r ≡ no-voters ⌝ }
     {
         Voters {
             named: [false; 10],
@@ -20,7 +18,7 @@ impl Voters {
 
     // The set with one digit more; a number above 9 adds nothing.
     pub fn with(self, digit: u32) -> Voters
-        ensures { λ r. ⌜ ((d : ℕ) → votes r d ≡ adds (votes self) digit d) ⌝ }
+        ensures { λ r. ⌜ r ≡ with-voter self digit ⌝ }
     {
         let mut named = self.named;
         if digit < 10 {
