@@ -1,0 +1,4 @@
+pub mod Queues
+pub mod Places
+pub mod Accepted
+pub mod Noting

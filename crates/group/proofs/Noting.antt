@@ -1,0 +1,54 @@
+-- Messages to one box: what the code does to it is what the protocol does.
+use mathlib.Core.Path.{_≡_, refl, sym, ap, _∙_}
+use mathlib.Core.Bool.{Bool, true, false, _||_}
+use mathlib.Core.List.{List}
+use Prim.Native.Nat.{ℕ, _<_}
+use native.Mathlib.Omega.{arith}
+use lib.ListN.{length, length-set, getD, set}
+use lib.Seq.{getD-set-same}
+use Rattle.std.proofs.shelf.Ways.{tells}
+use Rattle.std.specs.declared.option.Option.{Option}
+use Rattle.std.specs.declared.option.Option.the-variants.{None}
+use Rattle.base.specs.declared.fault.Fault.{Fault}
+use Rattle.base.specs.Meaning.{Meaning}
+use Rattle.protocol.specs.Tests.{put, put2, tally}
+use Rattle.protocol.specs.State.{State, Fixed}
+use Rattle.protocol.specs.Refusals.{message-refusal}
+use Rattle.protocol.specs.Steps.{note, dropped, pool-size}
+use Rattle.protocol.proofs.Same.{same-state, same-boxes}
+use Rattle.group.specs.declared.job.Job.{Job}
+use Rattle.group.specs.declared.replica.Replica.{Replica}
+use Rattle.group.specs.Sets.{has, Has}
+use Rattle.group.specs.View.{seen, no-box, box-at}
+use Rattle.group.proofs.Places.{kept-at, changed-at}
+
+module _ {S : Type 0} (fast : Bool) (capacity leader epoch : ℕ) (waiting log : List ℕ) (book : S) (jobs : List Job) (boxes : List Replica) where
+  abbrev before : State S
+  before = seen fast capacity leader epoch waiting log book jobs boxes
+
+  abbrev after : List Replica → State S
+  after boxes′ = seen fast capacity leader epoch waiting log book jobs boxes′
+
+  same-size : (r : ℕ) (q : Replica) → after (set boxes r q) .fixed ≡ before .fixed
+  same-size r q = ap (λ (n : ℕ). record { size = n; fast = fast; capacity = capacity }) (length-set boxes r q)
+
+  -- a message that is in transit to a box of the group is not refused
+  pub under-way : (r c : ℕ) (b : Bool) → r < length boxes → c < length jobs → b ≡ true → message-refusal r c b before ≡ None
+  under-way r c b hr hc sent = grind (arith, tells)
+
+  pub note-moves : (r c : ℕ) (q : Replica) → r < length boxes →
+      Has q (has (box-at boxes r .requests)) (put (has (box-at boxes r .notices)) c false) (put (has (box-at boxes r .taken)) c true) (put (has (box-at boxes r .pool)) c false) →
+      after (set boxes r q) ≡ note r c before
+  note-moves r c q h new =
+      same-state (same-size r q) refl refl (same-boxes (record {
+        request = kept-at boxes r q no-box h (λ b. has (b .requests)) (new .requests);
+        notice = changed-at boxes r q no-box h (λ b. has (b .notices)) c false (new .notices);
+        taken = changed-at boxes r q no-box h (λ b. has (b .taken)) c true (new .taken);
+        pool = changed-at boxes r q no-box h (λ b. has (b .pool)) c false (new .pool);
+        answer = λ x y. refl;
+      }))
+
+  -- the size of the pool that was written
+  pub pool-written : (r : ℕ) (q : Replica) → r < length boxes → (s : State S) → after (set boxes r q) ≡ s → tally (length jobs) (has (q .pool)) ≡ pool-size s r
+  pool-written r q h s e =
+      ap (λ (b : Replica). tally (length jobs) (has (b .pool))) (sym (getD-set-same boxes r q no-box h)) ∙ ap (λ t. pool-size t r) e

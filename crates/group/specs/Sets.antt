@@ -1,0 +1,31 @@
+-- Sets and lists of jobs.
+use mathlib.Core.Path.{_≡_}
+use mathlib.Core.Bool.{Bool, false, _&&_}
+use mathlib.Core.List.{List, [], _∷_}
+use Prim.Native.Nat.{ℕ}
+use Rattle.std.specs.declared.option.Option.{Option}
+use Rattle.std.specs.declared.option.Option.the-variants.{Some, None}
+use lib.Dec.{ltb}
+use lib.ListN.{getD}
+use Rattle.group.specs.declared.job_set.JobSet.{JobSet}
+use Rattle.group.specs.declared.replica.Replica.{Replica}
+
+-- the job is in the set
+abbrev pub has : JobSet → ℕ → Bool
+has s c = ltb c 256 && getD (s .members) c false
+
+-- the head of a list, and the rest
+abbrev pub first-of : List ℕ → Option ℕ
+first-of [] = None
+first-of (x ∷ xs) = Some x
+
+abbrev pub rest-of : List ℕ → List ℕ
+rest-of [] = []
+rest-of (x ∷ xs) = xs
+
+-- a box's four sets, place by place
+pub record Has (q : Replica) (requested notified noticed pooled : ℕ → Bool) : Type 0 where
+  pub requests : (c : ℕ) → has (q .requests) c ≡ requested c
+  pub notices : (c : ℕ) → has (q .notices) c ≡ notified c
+  pub taken : (c : ℕ) → has (q .taken) c ≡ noticed c
+  pub pool : (c : ℕ) → has (q .pool) c ≡ pooled c

@@ -1,0 +1,9 @@
+mod client;
+mod group;
+mod job;
+mod job_set;
+mod messages;
+mod replica;
+mod waiting;
+
+pub use group::Group;
