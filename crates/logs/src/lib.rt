@@ -1,3 +1,5 @@
+mod array;
 mod log;
 
+pub use array::ArrayLog;
 pub use log::Log;
