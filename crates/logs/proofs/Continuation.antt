@@ -75,10 +75,10 @@ module _ (m : ℕ) (fits : m ≤ 4096) (xs ys : List ℕ) (place : ℕ) (h : len
       elim (cases-lt (length xs) m) [
         | inl o ↦ rw (open-is m fits xs ys o) refl
         | inr f ↦ elim (cases-eq place 0) [
-            | inl z ↦ place-zero xs place z ∙ sym (place-zero (continued m xs ys) place z)
-            | inr z ↦ place-within xs place (omega arith) k
-                ∙ sym (at-both (omega arith) (omega arith) (omega arith) (omega arith) ∙ ap Some (getD-append-left xs ys 0 (place - 1) (omega arith)))
-          ]
+          | inl z ↦ place-zero xs place z ∙ sym (place-zero (continued m xs ys) place z)
+          | inr z ↦ place-within xs place (omega arith) k
+              ∙ sym (at-both (omega arith) (omega arith) (omega arith) (omega arith) ∙ ap Some (getD-append-left xs ys 0 (place - 1) (omega arith)))
+        ]
       ]
 
   pub second-place : length xs < place → place ≤ length (continued m xs ys)

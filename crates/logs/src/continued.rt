@@ -15,7 +15,7 @@ pub struct Continued<A, B> {
 // However much the two can hold, no more is taken.
 const MOST: usize = 4096;
 
-pub impl<A: Log, B: Log + Drop> Log for Continued<A, B> as ContinuedEntries {
+pub impl<A: Log, B: Log + Drop> Log for Continued<A, B> as ContinuedAsLog {
     ghost limit = { joint (A·Log .limit) (B·Log .limit) };
 
     ghost entries = { λ s. continued (A·Log .limit) (A·Log .entries (s .first)) (B·Log .entries (s .second)) };

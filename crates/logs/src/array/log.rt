@@ -1,21 +1,20 @@
 ghost use mathlib.Core.Path.{_≡_};
 ghost use lib.ListN.{take};
 use super::ArrayLog;
+use super::ROOM;
 use crate::Log;
 use base::Fault;
 use base::Layer;
 use base::Refusal;
 
-const ROOM: usize = 128;
-
-pub impl Log for ArrayLog as ArrayEntries {
+pub impl Log for ArrayLog as ArrayAsLog {
     ghost limit = { 128 };
 
     ghost entries = { λ s. take (s .count) (s .numbers) };
 
     fn fresh() -> ArrayLog {
         ArrayLog {
-            numbers: [0; 128],
+            numbers: [0; ROOM],
             count: 0,
         }
     }

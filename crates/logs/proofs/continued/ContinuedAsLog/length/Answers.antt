@@ -2,7 +2,7 @@ use mathlib.Core.Path.{_≡_, ap, sym, _∙_}
 use native.Mathlib.Omega.{arith}
 use lib.ListN.{length}
 use Rattle.logs.proofs.Continuation.{open-is, full-length}
-use Rattle.logs.proofs.continued.ContinuedEntries.length.Needs as need
+use Rattle.logs.proofs.continued.ContinuedAsLog.length.Needs as need
 
 pub returns-then-first-capacity : need.returns-then-first-capacity
 returns-then-first-capacity g c =

@@ -4,7 +4,7 @@ use native.Mathlib.Omega.{arith}
 use lib.ListN.{length, take}
 use Rattle.std.proofs.shelf.Lists.{length-take-le, take-more-set}
 use Rattle.logs.proofs.Adding.{room-outcome, room-added}
-use Rattle.logs.proofs.array.log.ArrayEntries.add.Needs as need
+use Rattle.logs.proofs.array.log.ArrayAsLog.add.Needs as need
 
 pub returns : need.returns
 returns c =

@@ -5,7 +5,7 @@ use lib.ListN.{length, take}
 use Rattle.std.specs.declared.option.Option.the-variants.{Some}
 use Rattle.std.proofs.shelf.Lists.{length-take-le, getD-take}
 use Rattle.logs.proofs.Adding.{place-within}
-use Rattle.logs.proofs.array.log.ArrayEntries.get.Needs as need
+use Rattle.logs.proofs.array.log.ArrayAsLog.get.Needs as need
 
 pub returns : need.returns
 returns c =

@@ -4,7 +4,7 @@ use native.Mathlib.Omega.{arith}
 use lib.ListN.{length}
 use Rattle.logs.specs.Continuing.{continued}
 use Rattle.logs.proofs.Continuation.{first-outcome, first-added, second-outcome, second-added}
-use Rattle.logs.proofs.continued.ContinuedEntries.add.Needs as need
+use Rattle.logs.proofs.continued.ContinuedAsLog.add.Needs as need
 
 pub returns-then-length-capacity : need.returns-then-length-capacity
 returns-then-length-capacity g c =

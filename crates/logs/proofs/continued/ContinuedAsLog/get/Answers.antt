@@ -3,7 +3,7 @@ use Prim.Native.Nat.{_-_}
 use native.Mathlib.Omega.{arith}
 use Rattle.logs.specs.Entries.{at-place}
 use Rattle.logs.proofs.Continuation.{first-place, second-place}
-use Rattle.logs.proofs.continued.ContinuedEntries.get.Needs as need
+use Rattle.logs.proofs.continued.ContinuedAsLog.get.Needs as need
 
 pub returns-then-place-first : need.returns-then-place-first
 returns-then-place-first g c =
