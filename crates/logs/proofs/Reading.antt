@@ -1,8 +1,8 @@
 -- Lines are read as the numbers that they were written from.
-use mathlib.Core.Path.{_≡_, refl, sym, ap, subst, _∙_}
-use mathlib.Core.Bool.{Bool, true, false, cond, _&&_}
+use mathlib.Core.Path.{_≡_, refl, sym, ap, _∙_}
+use mathlib.Core.Bool.{true, false, cond}
 use mathlib.Core.List.{List, [], _∷_, _++_, append-assoc}
-use Prim.Native.Nat.{ℕ, suc, zero, _+_, _-_, _*_, _/_, _%_, _^_, _≤_, _<_}
+use Prim.Native.Nat.{ℕ, suc, zero, _+_, _-_, _*_, _/_, _%_, _≤_, _<_}
 use native.Mathlib.Nat.{add-zero}
 use native.Mathlib.Omega.{arith}
 use lib.Dec.{ltb, leb}
@@ -11,7 +11,7 @@ use Rattle.std.specs.Text.{asciiDigit}
 use Rattle.std.specs.Written.{decimal}
 use Rattle.std.proofs.shelf.Decimals.{decimal-by-steps}
 use Rattle.std.proofs.shelf.Lists.{at-drop-more, drop-drop, getD-drop, length-drop}
-use Rattle.std.proofs.shelf.Tests.{cond-true, cond-false, cond-both, le-leb, lt-ltb, ltb-true, and-from, and-parts}
+use Rattle.std.proofs.shelf.Tests.{cond-true, cond-false, le-leb, lt-ltb, ltb-true, and-from, and-parts}
 use Rattle.logs.specs.Lines.{lines-of, read-on, numbers-in, all-fit}
 
 -- one digit more, at the end of a number

@@ -1,4 +1,3 @@
-ghost use mathlib.Core.Path.{_≡_};
 ghost use lib.ListN.{take};
 use super::ArrayLog;
 use super::ROOM;

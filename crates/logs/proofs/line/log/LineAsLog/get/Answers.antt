@@ -1,12 +1,10 @@
 use mathlib.Core.Path.{_≡_, ap, sym, _∙_}
-use mathlib.Core.List.{List}
-use Prim.Native.Nat.{ℕ, _+_, _-_, _*_, _<_}
+use Prim.Native.Nat.{_+_, _-_}
 use native.Mathlib.Omega.{arith}
-use lib.ListN.{length, drop, getD}
-use Rattle.std.specs.Text.{asciiDigit}
+use lib.ListN.{drop, getD}
 use Rattle.std.specs.declared.option.Option.the-variants.{Some}
 use Rattle.std.proofs.shelf.Lists.{drop-all}
-use Rattle.logs.specs.Lines.{content, numbers-in, read-on}
+use Rattle.logs.specs.Lines.{content, numbers-in}
 use Rattle.logs.proofs.Adding.{place-within}
 use Rattle.logs.proofs.Reading.{fits-on, not-done, goes-on, ends-as, starts-next}
 use Rattle.logs.proofs.line.log.LineAsLog.get.Needs as need
