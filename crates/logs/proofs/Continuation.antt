@@ -1,6 +1,6 @@
 -- A log and its continuation as one list, by whether the first is full.
 use mathlib.Core.Path.{_≡_, refl, sym, ap, _∙_}
-use mathlib.Core.Bool.{Bool, true, false, cond}
+use mathlib.Core.Bool.{true, false, cond}
 use mathlib.Core.Logic.{inl, inr}
 use mathlib.Core.List.{List, [], _∷_, _++_, append-assoc}
 use Prim.Native.Nat.{ℕ, _+_, _-_, _≤_, _<_, min}
@@ -14,20 +14,19 @@ use Rattle.logs.specs.Entries.{added, added-outcome, at-place}
 use Rattle.logs.specs.Continuing.{continued, joint}
 use Rattle.logs.proofs.Adding.{room-outcome, room-added, place-within, place-zero}
 
--- the first list and no more, whatever the test
-same-both : (b : Bool) (xs : List ℕ) → cond b xs (xs ++ []) ≡ xs
-same-both true xs = refl
-same-both false xs = append-nil xs
-
 pub alone : (m : ℕ) (xs ys : List ℕ) → ys ≡ [] → length xs ≤ 4096 → continued m xs ys ≡ xs
-alone m xs ys e h = rw e (ap (take 4096) (same-both (ltb (length xs) m) xs) ∙ take-all 4096 xs h)
+alone m xs ys e h =
+    elim (ltb (length xs) m) as (λ b. cond b xs (take 4096 (xs ++ ys)) ≡ xs) [
+      | true ↦ refl
+      | false ↦ rw (e, append-nil) (take-all 4096 xs h)
+    ]
 
-module _ (m : ℕ) (fits : m ≤ 4096) (xs ys : List ℕ) where
+module _ (m : ℕ) (xs ys : List ℕ) where
   pub open-is : length xs < m → continued m xs ys ≡ xs
-  open-is h = ap (take 4096) (cond-true _ _ _ (lt-ltb (length xs) m h)) ∙ take-all 4096 xs (omega arith)
+  open-is h = cond-true _ _ _ (lt-ltb (length xs) m h)
 
   pub full-is : length xs ≡ m → continued m xs ys ≡ take 4096 (xs ++ ys)
-  full-is e = ap (take 4096) (cond-false _ _ _ (le-ltb (length xs) m (omega arith)))
+  full-is e = cond-false _ _ _ (le-ltb (length xs) m (omega arith))
 
   pub full-length : length xs ≡ m → length (continued m xs ys) ≡ min (m + length ys) 4096
   full-length e = ap length (full-is e) ∙ simp (length-take, length-append) (omega arith)
@@ -37,23 +36,23 @@ module _ (m : ℕ) (fits : m ≤ 4096) (xs ys : List ℕ) (n k : ℕ) where
   module _ (h : length xs < m) where
     pub first-outcome : added-outcome m xs ≡ added-outcome (joint m n) (continued m xs ys)
     first-outcome =
-        rw (open-is m fits xs ys h) (room-outcome m xs h ∙ sym (room-outcome (joint m n) xs (omega arith)))
+        rw (open-is m xs ys h) (room-outcome m xs h ∙ sym (room-outcome (joint m n) xs (omega arith)))
 
     pub first-added : (zs : List ℕ) → zs ≡ [] → continued m (added m xs k) zs ≡ added (joint m n) (continued m xs ys) k
     first-added zs e =
         let l = length-push xs k in
-        rw (open-is m fits xs ys h, room-added m xs k h, room-added (joint m n) xs k (omega arith)) (alone m (xs ++ k ∷ []) zs e (omega arith))
+        rw (open-is m xs ys h, room-added m xs k h, room-added (joint m n) xs k (omega arith)) (alone m (xs ++ k ∷ []) zs e (omega arith))
 
   -- an addition to the second, where there is room
   module _ (e : length xs ≡ m) (room : length (continued m xs ys) < joint m n) where
     left : (length ys < n) × (m + length ys < 4096)
-    left = let l = full-length m fits xs ys e in (omega arith, omega arith)
+    left = let l = full-length m xs ys e in (omega arith, omega arith)
 
     pub second-outcome : added-outcome n ys ≡ added-outcome (joint m n) (continued m xs ys)
     second-outcome = room-outcome n ys (left .0) ∙ sym (room-outcome (joint m n) (continued m xs ys) room)
 
     more : (zs : List ℕ) → length zs ≤ 4096 - m → continued m xs zs ≡ xs ++ zs
-    more zs l = full-is m fits xs zs e ∙ take-all 4096 (xs ++ zs) (simp length-append (omega arith))
+    more zs l = full-is m xs zs e ∙ take-all 4096 (xs ++ zs) (simp length-append (omega arith))
 
     pub second-added : continued m xs (added n ys k) ≡ added (joint m n) (continued m xs ys) k
     second-added =
@@ -66,14 +65,14 @@ module _ (m : ℕ) (fits : m ≤ 4096) (xs ys : List ℕ) (place : ℕ) (h : len
   at-both : length xs ≡ m → 1 ≤ place → place ≤ 4096 → place ≤ length xs + length ys
       → at-place (continued m xs ys) place ≡ Some (getD (xs ++ ys) (place - 1) 0)
   at-both e a b c =
-      let l = full-length m fits xs ys e in
+      let l = full-length m xs ys e in
       place-within (continued m xs ys) place a (omega arith)
-      ∙ ap Some (rw (full-is m fits xs ys e) (getD-take 4096 (xs ++ ys) (place - 1) 0 (omega arith)))
+      ∙ ap Some (rw (full-is m xs ys e) (getD-take 4096 (xs ++ ys) (place - 1) 0 (omega arith)))
 
   pub first-place : place ≤ length xs → at-place xs place ≡ at-place (continued m xs ys) place
   first-place k =
       elim (cases-lt (length xs) m) [
-        | inl o ↦ rw (open-is m fits xs ys o) refl
+        | inl o ↦ rw (open-is m xs ys o) refl
         | inr f ↦ elim (cases-eq place 0) [
           | inl z ↦ place-zero xs place z ∙ sym (place-zero (continued m xs ys) place z)
           | inr z ↦ place-within xs place (omega arith) k
@@ -85,10 +84,10 @@ module _ (m : ℕ) (fits : m ≤ 4096) (xs ys : List ℕ) (place : ℕ) (h : len
       → at-place ys (place - length xs) ≡ at-place (continued m xs ys) place
   second-place k l =
       elim (cases-lt (length xs) m) [
-        | inl o ↦ let s = ap length (open-is m fits xs ys o) in absurd (omega arith)
+        | inl o ↦ let s = ap length (open-is m xs ys o) in absurd (omega arith)
         | inr f ↦
             let e : length xs ≡ m = omega arith in
-            let s = full-length m fits xs ys e in
+            let s = full-length m xs ys e in
             let i : (place - length xs) - 1 ≡ (place - 1) - length xs = omega arith in
             place-within ys (place - length xs) (omega arith) (omega arith)
             ∙ (ap Some (rw i (sym (getD-append-right xs ys (length xs) (place - 1) 0 refl (omega arith))))

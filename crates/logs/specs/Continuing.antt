@@ -13,6 +13,6 @@ most = 4096
 abbrev pub joint : ℕ → ℕ → ℕ
 joint first second = min (first + second) most
 
--- What both hold as one log. The second counts only from when the first, with its limit, is full.
+-- What both hold as one log: what the first holds until it is at its limit, and then both.
 abbrev pub continued : ℕ → List ℕ → List ℕ → List ℕ
-continued limit xs ys = take most (cond (ltb (length xs) limit) xs (xs ++ ys))
+continued limit xs ys = cond (ltb (length xs) limit) xs (take most (xs ++ ys))
