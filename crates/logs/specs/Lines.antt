@@ -6,7 +6,7 @@ use lib.Dec.{ltb}
 use lib.ListN.{take}
 use Rattle.std.specs.Text.{asciiDigit}
 use Rattle.std.specs.Written.{decimal}
-use Rattle.logs.specs.declared.line.text.Text.{Text}
+use Rattle.logs.specs.declared.line.Text.{Text}
 
 -- the bytes in use
 abbrev pub content : Text → List ℕ

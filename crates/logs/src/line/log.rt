@@ -1,7 +1,7 @@
 ghost use mathlib.Core.Path.{_≡_};
 ghost use Rattle.logs.specs.Lines.{content, lines-of, numbers-in};
 use super::LineLog;
-use super::text::Text;
+use super::Text;
 use crate::Log;
 use base::Fault;
 use base::Layer;

@@ -6,7 +6,7 @@ use lib.ListN.{length}
 use Rattle.std.specs.Written.{decimal}
 use Rattle.std.proofs.shelf.Decimals.{decimal-digit, decimal-step, length-decimal-le}
 use Rattle.std.proofs.shelf.Lists.{length-push}
-use Rattle.logs.proofs.line.text.Text.+digits.Needs as need
+use Rattle.logs.proofs.line.Text.+digits.Needs as need
 
 -- one digit more than the front has, and five at most
 longer : (n : ℕ) → n < 65536 → 10 ≤ n → (length (decimal n) ≡ length (decimal (n / 10)) + 1) × (length (decimal n) ≤ 5)
