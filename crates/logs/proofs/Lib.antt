@@ -1,0 +1,3 @@
+pub mod Adding
+pub mod Continuation
+pub mod Reading

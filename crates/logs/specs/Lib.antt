@@ -1,1 +1,3 @@
+pub mod Continuing
 pub mod Entries
+pub mod Lines
