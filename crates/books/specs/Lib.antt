@@ -1,5 +1,6 @@
 pub mod Accepted
 pub mod Cards
+pub mod Cases
 pub mod Fitting
 pub mod Pairs
 pub mod Tables

@@ -17,8 +17,8 @@ paired m n = record {
   initial = (m .initial, n .initial);
   misfit = λ r. cond (on-left r) (m .misfit r) (n .misfit (lower r));
   clashes = λ a b.
-    cond (on-left a) (cond (on-left b) (m .clashes a b) false)
-    (cond (on-left b) false (n .clashes (lower a) (lower b)));
+      cond (on-left a) (cond (on-left b) (m .clashes a b) false)
+      (cond (on-left b) false (n .clashes (lower a) (lower b)));
   result = λ s r. cond (on-left r) (m .result (s .0) r) (n .result (s .1) (lower r));
   after = λ s r. cond (on-left r) (m .after (s .0) r, s .1) (s .0, n .after (s .1) (lower r));
 }

@@ -1,15 +1,15 @@
-ghost use Prim.Native.Nat.{ℕ};
-ghost use lib.ListN.{getD};
-ghost use Rattle.books.specs.Cards.{Slots, cards};
+ghost use mathlib.Core.Path.{_≡_};
+ghost use Rattle.books.specs.Cards.{Slots, slots-of, cards};
 use crate::book::Book;
 use base::Record;
 
-// The acts; any other number up to the last one reads.
+// The acts: 0 reads.
 const WRITE: u32 = 1;
+
 const CLEAR: u32 = 2;
 
 const SLOTS: usize = 256;
-const LAST_SLOT: u32 = 255;
+
 const LARGEST_VALUE: u32 = 999_999;
 
 // A value in each slot.
@@ -18,15 +18,23 @@ pub struct Cards {
     values: [u32; SLOTS],
 }
 
+fn empty_slots() -> [u32; SLOTS]
+    ensures { λ r. ⌜ slots-of r ≡ (λ _. 0) ⌝ }
+{
+    [0; SLOTS]
+}
+
 pub impl Book for Cards as CardsBook {
     ghost State = { Slots };
 
-    ghost state = { λ c slot. getD (c .values) slot 0 };
+    ghost state = { λ c. slots-of (c .values) };
 
     ghost meaning = { cards };
 
     fn fresh() -> Cards {
-        Cards { values: [0; SLOTS] }
+        Cards {
+            values: empty_slots(),
+        }
     }
 
     fn fits(job: Record) -> Option<u8> {
@@ -35,7 +43,7 @@ pub impl Book for Cards as CardsBook {
             Some(Record::BOOK)
         } else if job.act > CLEAR {
             Some(Record::ACT)
-        } else if job.x > LAST_SLOT {
+        } else if job.x as usize >= SLOTS {
             Some(Record::X)
         } else if job.y > largest {
             Some(Record::Y)
@@ -47,10 +55,7 @@ pub impl Book for Cards as CardsBook {
     }
 
     fn clash(a: Record, b: Record) -> bool {
-        if Self::fits(a).is_some() {
-            return false;
-        }
-        if Self::fits(b).is_some() {
+        if Self::fits(a).is_some() || Self::fits(b).is_some() {
             return false;
         }
         a.x == b.x

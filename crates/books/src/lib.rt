@@ -1,5 +1,6 @@
 mod book;
 mod cards;
+mod cases;
 mod pair;
 mod week;
 mod windows;
@@ -7,6 +8,7 @@ mod windows;
 pub use book::Book;
 pub use cards::Cards;
 pub use cards::CardsBook;
+pub use cases::clash_cases;
 pub use pair::Pair;
 pub use pair::PairBook;
 pub use windows::Windows;

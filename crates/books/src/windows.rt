@@ -1,20 +1,18 @@
 ghost use mathlib.Core.Path.{_≡_};
-ghost use Prim.Native.Nat.{ℕ, _<_, _≤_};
-ghost use Rattle.books.specs.Tables.{put};
-ghost use Rattle.books.specs.Weeks.{weeks};
-ghost use Rattle.books.specs.Windows.{Hours, marked, windows};
+ghost use mathlib.Core.Bool.{false};
+ghost use Rattle.std.specs.Options.{isSome};
+ghost use Rattle.books.specs.Weeks.{timetable-of};
+ghost use Rattle.books.specs.Windows.{Timetable, windows, windows-misfit, with-hours};
 use crate::book::Book;
 use crate::week::Week;
 use base::Record;
 
-// The acts; between them stands the one that only asks.
+// The acts: 1 asks whether the hours are free.
 const BOOK: u32 = 0;
+
 const FREE: u32 = 2;
 
 const VEHICLES: usize = 16;
-const LAST_VEHICLE: u32 = 15;
-const LAST_HOUR: u32 = 167;
-const HOURS: u32 = 168;
 
 // A week of hours for each vehicle.
 #[derive(Drop)]
@@ -22,26 +20,35 @@ pub struct Windows {
     weeks: [Week; VEHICLES],
 }
 
+fn free_weeks() -> [Week; VEHICLES]
+    ensures { λ r. ⌜ timetable-of r ≡ (λ _ _. false) ⌝ }
+{
+    [Week::free(); VEHICLES]
+}
+
 impl Windows {
-    // Makes the hours of one vehicle all taken, or all free.
-    fn mark(&mut self, vehicle: usize, from: usize, end: usize, taken: bool)
-        requires { ⌜ vehicle < 16 ⌝ ∗ ⌜ from ≤ end ⌝ ∗ ⌜ end ≤ 168 ⌝ }
-        ensures { λ _. ⌜ weeks (now (self .exit)) ≡ put (weeks (now (self .entry))) vehicle (marked (weeks (now (self .entry)) vehicle) from end taken) ⌝ }
+    // Makes the hours of a record that fits all taken, or all free.
+    fn mark(&mut self, job: Record, taken: bool)
+        requires { ⌜ isSome (windows-misfit job) ≡ false ⌝ }
+        ensures { λ _. ⌜ timetable-of (now (self .exit) .weeks) ≡ with-hours (timetable-of (now (self .entry) .weeks)) job taken ⌝ }
     {
+        let vehicle = job.x as usize;
         let week = self.weeks[vehicle];
-        self.weeks[vehicle] = week.marked(from, end, taken);
+        self.weeks[vehicle] = week.marked(job.y as usize, job.z as usize, taken);
     }
 }
 
 pub impl Book for Windows as WindowsBook {
-    ghost State = { ℕ → Hours };
+    ghost State = { Timetable };
 
-    ghost state = { weeks };
+    ghost state = { λ w. timetable-of (w .weeks) };
 
     ghost meaning = { windows };
 
     fn fresh() -> Windows {
-        Windows { weeks: [Week::free(); VEHICLES] }
+        Windows {
+            weeks: free_weeks(),
+        }
     }
 
     fn fits(job: Record) -> Option<u8> {
@@ -49,11 +56,11 @@ pub impl Book for Windows as WindowsBook {
             Some(Record::BOOK)
         } else if job.act > FREE {
             Some(Record::ACT)
-        } else if job.x > LAST_VEHICLE {
+        } else if job.x as usize >= VEHICLES {
             Some(Record::X)
-        } else if job.y > LAST_HOUR {
+        } else if job.y as usize >= Week::HOURS {
             Some(Record::Y)
-        } else if job.z <= job.y || job.z > HOURS {
+        } else if job.z <= job.y || job.z as usize > Week::HOURS {
             Some(Record::Z)
         } else {
             None
@@ -61,10 +68,7 @@ pub impl Book for Windows as WindowsBook {
     }
 
     fn clash(a: Record, b: Record) -> bool {
-        if Self::fits(a).is_some() {
-            return false;
-        }
-        if Self::fits(b).is_some() {
+        if Self::fits(a).is_some() || Self::fits(b).is_some() {
             return false;
         }
         a.x == b.x && a.y < b.z && b.y < a.z
@@ -78,10 +82,8 @@ pub impl Book for Windows as WindowsBook {
         let taken = week.taken_between(job.y as usize, job.z as usize);
         if job.act == FREE {
             taken
-        } else if taken == 0 {
-            1
         } else {
-            0
+            u32::from(taken == 0)
         }
     }
 
@@ -91,9 +93,9 @@ pub impl Book for Windows as WindowsBook {
         }
         let result = self.look(job);
         if job.act == BOOK && result == 1 {
-            self.mark(job.x as usize, job.y as usize, job.z as usize, true);
+            self.mark(job, true);
         } else if job.act == FREE {
-            self.mark(job.x as usize, job.y as usize, job.z as usize, false);
+            self.mark(job, false);
         }
         result
     }

@@ -3,7 +3,7 @@ use mathlib.Core.Bool.{_&&_}
 use native.Mathlib.Omega.{arith}
 use lib.Dec.{leb}
 use Rattle.std.proofs.shelf.Ways.{tells}
-use Rattle.books.specs.Weeks.{hours}
+use Rattle.books.specs.Weeks.{hours-of}
 use Rattle.books.proofs.Tables.{tally-more, tally-none}
 use Rattle.books.proofs.week.Week.taken_between.Needs as need
 
@@ -13,5 +13,5 @@ loop-hour-holds c = (sym (tally-none (c .args .from) _ (λ k h. grind (arith, te
 
 pub loop-hour-again : need.loop-hour-again
 loop-hour-again c =
-    let more = tally-more (c .loop-hour .hour) (λ k. leb (c .args .from) k && hours (c .args .self .now) k) in
+    let more = tally-more (c .loop-hour .hour) (λ k. leb (c .args .from) k && hours-of (c .args .self .now) k) in
     (grind (arith, tells), grind arith)

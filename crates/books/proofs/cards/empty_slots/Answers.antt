@@ -1,6 +1,6 @@
 use mathlib.Core.Path.{refl}
 use Rattle.books.proofs.Tables.{read-same}
-use Rattle.books.proofs.cards.CardsBook.fresh.Needs as need
+use Rattle.books.proofs.cards.empty_slots.Needs as need
 
 -- src/cards.rt
 pub returns : need.returns
