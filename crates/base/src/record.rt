@@ -11,8 +11,12 @@ pub struct Record {
 // The place of each number in a written job, where the job's letter is at place 1.
 impl Record {
     pub const BOOK: u8 = 2;
+
     pub const ACT: u8 = 3;
+
     pub const X: u8 = 4;
+
     pub const Y: u8 = 5;
+
     pub const Z: u8 = 6;
 }

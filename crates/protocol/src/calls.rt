@@ -4,11 +4,11 @@ use crate::answers::Phase;
 use crate::answers::PhaseDebug;
 use crate::answers::PhasePartialEq;
 use crate::voters::Voters;
+use crate::voters::VotersDebug;
+use crate::voters::VotersPartialEq;
 use base::Record;
 use base::RecordDebug;
 use base::RecordPartialEq;
-use crate::voters::VotersDebug;
-use crate::voters::VotersPartialEq;
 
 // What can be asked of a group. Replicas and jobs go by their numbers, from 0; any number may be named.
 #[derive(Clone, Copy, PartialEq, Eq, Debug)]

@@ -11,9 +11,7 @@ impl Voters {
     pub fn none() -> Voters
         ensures { λ r. ⌜ r ≡ no-voters ⌝ }
     {
-        Voters {
-            named: [false; 10],
-        }
+        Voters { named: [false; 10] }
     }
 
     // The set with one digit more; a number above 9 adds nothing.

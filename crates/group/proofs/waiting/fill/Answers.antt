@@ -12,6 +12,6 @@ loop-c-again c =
     let more = ascending-more (c .loop-c .c) (has (c .args .set .now)) in
     let here = c .has .ensures in
     elim (c .if-has .came) [
-        then-has w ↦ (grind arith, grind arith, grind arith)
+      | then-has w ↦ (grind arith, grind arith, grind arith)
       | else-has w ↦ (grind (arith, append-nil), grind arith, grind arith)
     ]

@@ -25,8 +25,7 @@ ghost-self c =
     let new : mem (c .args .job) (self .jobs .items) ≡ false = sym (c .has .ensures) ∙ c .if-not-has .taken in
     let grown = sym (c .push-reserved .ensures .items) in
     let big = self .roomy in
-    let cap = c .push-reserved .ensures .capacity in
-    (
+    let cap = c .push-reserved .ensures .capacity in (
       subst (λ xs. distinct xs ≡ true) grown (joined-once (self .jobs .items) (c .args .job) (self .once) (self .small) new (c .pre)),
       (subst (λ xs. all-below 256 xs ≡ true) grown (joined-below (self .jobs .items) (c .args .job) (self .once) (self .small) new (c .pre)), (omega arith, tt)),
     )

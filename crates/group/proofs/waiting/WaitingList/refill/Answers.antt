@@ -13,8 +13,7 @@ ghost-self c =
     let filled = sym (c .fill .ensures .items) in
     let big = c .args .self .now .roomy in
     let cap = c .fill .ensures .capacity in
-    let few = c .pre in
-    (
+    let few = c .pre in (
       subst (λ xs. distinct xs ≡ true) filled (distinct-ascending (c .args .count) (has (c .args .set .now))),
       (subst (λ xs. all-below 256 xs ≡ true) filled (below-ascending (c .args .count) 256 (has (c .args .set .now)) few), (omega arith, tt)),
     )
