@@ -8,8 +8,11 @@ use lib.ListN.{length, length-set, getD, set}
 use lib.Seq.{getD-set-same}
 use Rattle.std.proofs.shelf.Ways.{tells}
 use Rattle.std.specs.declared.option.Option.{Option}
-use Rattle.std.specs.declared.option.Option.the-variants.{None}
+use Rattle.std.specs.declared.option.Option.the-variants.{Some, None}
 use Rattle.base.specs.declared.fault.Fault.{Fault}
+use Rattle.base.specs.declared.fault.Refusal.the-variants.{NotInTransit}
+use Rattle.base.specs.declared.fault.Layer.the-variants.{Group}
+use Rattle.base.specs.Faults.{plain}
 use Rattle.base.specs.Meaning.{Meaning}
 use Rattle.protocol.specs.Tests.{put, put2, tally}
 use Rattle.protocol.specs.State.{State, Fixed}
@@ -35,6 +38,9 @@ module _ {S : Type 0} (fast : Bool) (capacity leader epoch : ℕ) (waiting log :
   -- a message that is in transit to a box of the group is not refused
   pub under-way : (r c : ℕ) (b : Bool) → r < length boxes → c < length jobs → b ≡ true → message-refusal r c b before ≡ None
   under-way r c b hr hc sent = grind (arith, tells)
+
+  pub not-under-way : (r c : ℕ) (b : Bool) → r < length boxes → c < length jobs → b ≡ false → message-refusal r c b before ≡ Some (plain NotInTransit Group)
+  not-under-way r c b hr hc none = grind (arith, tells)
 
   pub note-moves : (r c : ℕ) (q : Replica) → r < length boxes →
       Has q (has (box-at boxes r .requests)) (put (has (box-at boxes r .notices)) c false) (put (has (box-at boxes r .taken)) c true) (put (has (box-at boxes r .pool)) c false) →

@@ -1,6 +1,6 @@
 -- One box or one job written: what is read afterwards at every place.
 use mathlib.Core.Path.{_≡_, refl, sym, ap, _∙_}
-use mathlib.Core.List.{List, [], _∷_}
+use mathlib.Core.List.{List, [], _∷_, _++_}
 use mathlib.Core.Logic.{_⊎_, inl, inr}
 use mathlib.Core.Bool.{Bool, cond}
 use Prim.Native.Nat.{ℕ, zero, suc, _<_, _≤_}
@@ -49,3 +49,21 @@ module _ {A : Type 0} (xs : List A) (i₀ : ℕ) (q d : A) (h : i₀ < length xs
 
   pub kept-at : {B : Type 0} (f : A → ℕ → B) → ((y : ℕ) → f q y ≡ f (getD xs i₀ d) y) → (x y : ℕ) → f (getD (set xs i₀ q) x d) y ≡ f (getD xs x d) y
   kept-at f same x y = kept (λ a. f a y) (same y) x
+
+-- one element more at the end
+pub read-append : {A : Type 0} (xs : List A) (q d : A) (i : ℕ) → getD (xs ++ q ∷ []) i d ≡ put (λ j. getD xs j d) (length xs) q i
+read-append [] q d zero = refl
+read-append [] q d (suc i) = grind (arith, tells)
+read-append (x ∷ xs) q d zero = grind (arith, tells)
+read-append (x ∷ xs) q d (suc i) = let rest = read-append xs q d i in grind (arith, tells)
+
+module _ {A : Type 0} (xs : List A) (q d : A) where
+  pub appended : {B : Type 0} (f : A → B) (v : B) → f q ≡ v → (i : ℕ) → f (getD (xs ++ q ∷ []) i d) ≡ put (λ j. f (getD xs j d)) (length xs) v i
+  appended f v new i = let e = ap f (read-append xs q d i) in grind (arith, tells)
+
+  -- a field that the new element has as one that is not there
+  pub appended-kept : {B : Type 0} (f : A → B) → f q ≡ f d → (i : ℕ) → f (getD (xs ++ q ∷ []) i d) ≡ f (getD xs i d)
+  appended-kept f new i =
+      let e = ap f (read-append xs q d i) in
+      let beyond = ap f (read-none xs (length xs) d (omega arith)) in
+      grind (arith, tells)

@@ -1,7 +1,8 @@
 -- A group read as a state of the protocol.
 use mathlib.Core.Bool.{Bool}
 use mathlib.Core.List.{List, []}
-use Prim.Native.Nat.{ℕ}
+use mathlib.Core.Path.{_≡_}
+use Prim.Native.Nat.{ℕ, _<_}
 use lib.ListN.{getD, length}
 use Rattle.std.specs.Of.Vec.{vec-items}
 use Rattle.std.specs.declared.option.Option.the-variants.{None}
@@ -59,3 +60,13 @@ seen fast capacity leader epoch waiting log book jobs boxes = record {
 abbrev pub view : {B L S : Type 0} → (B → S) → (L → List ℕ) → ℕ → Group B L → State S
 view state entries capacity g =
     seen (g .fast) capacity (g .leader) (g .epoch) (vec-items (g .waiting .jobs)) (entries (g .log)) (state (g .book)) (vec-items (g .jobs)) (vec-items (g .boxes))
+
+-- each box became what P says, and none came or went
+pub record All-became (P : Replica → Replica → Type 0) (old new : List Replica) : Type 0 where
+  pub each : (r : ℕ) → r < length old → P (box-at old r) (box-at new r)
+  pub many : length new ≡ length old
+
+-- a box and a job that there are
+pub record Named {B L : Type 0} (replica job : ℕ) (g : Group B L) : Type 0 where
+  pub in-group : replica < length (vec-items (g .boxes))
+  pub proposed : job < length (vec-items (g .jobs))

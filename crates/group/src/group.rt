@@ -7,7 +7,9 @@ use crate::job::Job;
 use crate::replica::Replica;
 use crate::waiting::WaitingList;
 
+mod hear;
 mod notice;
+mod propose;
 mod reads;
 
 // A group of boxes over a book and a log. All its memory is taken when it is made.

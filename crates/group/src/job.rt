@@ -5,7 +5,7 @@ ghost use Rattle.protocol.specs.declared.answers.Answer.the-variants.{Transit, 
 ghost use Rattle.protocol.specs.declared.answers.Phase.the-variants.{Waiting};
 ghost use Rattle.protocol.specs.Tests.{put};
 ghost use Rattle.protocol.specs.Answers.{decide};
-ghost use Rattle.group.specs.Jobs.{Holds, answer-of};
+ghost use Rattle.group.specs.Jobs.{Holds, answer-of, transit-of};
 use crate::client::decision;
 use base::Record;
 use protocol::Answer;
@@ -30,6 +30,17 @@ impl Job {
             answers: [Answer::Empty; 9],
             phase: Phase::Waiting,
             given: None,
+        }
+    }
+
+    // The box's reply, where it is on its way to the client.
+    pub fn in_transit(self, replica: usize) -> Option<Reply>
+        requires { ⌜ replica < 9 ⌝ }
+        ensures { λ r. ⌜ r ≡ transit-of (answer-of self replica) ⌝ }
+    {
+        match self.answers[replica] {
+            Answer::Transit(reply) => Some(reply),
+            _ => None,
         }
     }
 
@@ -68,9 +79,10 @@ impl Job {
     pub fn logged(self, result: u32) -> Job
         ensures { λ q. ⌜ Holds q (self .«record») (answer-of self) (self .phase) (Some result) ⌝ }
     {
+        let answers = self.answers;
         Job {
             record: self.record,
-            answers: self.answers,
+            answers,
             phase: self.phase,
             given: Some(result),
         }

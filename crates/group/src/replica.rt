@@ -1,7 +1,7 @@
 ghost use Prim.Native.Nat.{_<_};
 ghost use mathlib.Core.Bool.{true, false, _||_};
 ghost use Rattle.protocol.specs.Tests.{put};
-ghost use Rattle.group.specs.Sets.{has, Has};
+ghost use Rattle.group.specs.Sets.{has, Has, Requested, Notified};
 use crate::job_set::JobSet;
 
 // One box: the requests and notices in transit to it, the notices it has taken, its pool.
@@ -30,7 +30,7 @@ impl Replica {
     // A request for the job is on its way.
     pub fn requested(self, job: usize) -> Replica
         requires { ⌜ job < 256 ⌝ }
-        ensures { λ q. ⌜ Has q (put (has (self .requests)) job true) (has (self .notices)) (has (self .taken)) (has (self .pool)) ⌝ }
+        ensures { λ q. ⌜ Requested job self q ⌝ }
     {
         Replica {
             requests: self.requests.put(job, true),
@@ -69,7 +69,7 @@ impl Replica {
     // A notice of the job is on its way.
     pub fn notified(self, job: usize) -> Replica
         requires { ⌜ job < 256 ⌝ }
-        ensures { λ q. ⌜ Has q (has (self .requests)) (put (has (self .notices)) job true) (has (self .taken)) (has (self .pool)) ⌝ }
+        ensures { λ q. ⌜ Notified job self q ⌝ }
     {
         Replica {
             requests: self.requests,

@@ -18,14 +18,9 @@ impl<B: Book, L: Log> Group<B, L> {
         ensures state { λ _. ⌜ view (B·Book .state) (L·Log .entries) (L·Log .limit) (now (self .exit)) ≡ step (B·Book .meaning) (Notice replica job) (view (B·Book .state) (L·Log .entries) (L·Log .limit) (now (self .entry))) ⌝ }
         ensures outcome { λ n. ⌜ n ≡ settled (notice-refusal replica job (view (B·Book .state) (L·Log .entries) (L·Log .limit) (now (self .entry)))) (pool-size (note replica job (view (B·Book .state) (L·Log .entries) (L·Log .limit) (now (self .entry)))) replica) ⌝ }
     {
+        self.named(replica, job)?;
         let r = replica as usize;
         let c = job as usize;
-        if r >= self.boxes.len() {
-            return Err(Fault::of(Refusal::NoReplica, Layer::Group));
-        }
-        if c >= self.jobs.len() {
-            return Err(Fault::of(Refusal::NoJob, Layer::Group));
-        }
         let at = self.boxes[r];
         if !at.notices.has(c) {
             return Err(Fault::of(Refusal::NotInTransit, Layer::Group));

@@ -1,11 +1,10 @@
 use mathlib.Core.Path.{_≡_, _∙_, sym, ap, subst}
 use mathlib.Core.Bool.{true, false}
-use Prim.Native.Nat.{ℕ, _<_}
-use native.Mathlib.Omega.{arith}
 use lib.ListN.{length}
 use borrow.Author.Needs.{needs}
 use Rattle.protocol.specs.Tests.{put, tally}
 use Rattle.protocol.specs.Refusals.{notice-refusal}
+use Rattle.protocol.specs.Steps.{note, pool-size}
 use Rattle.group.specs.declared.replica.Replica.{Replica}
 use Rattle.group.specs.Sets.{has, Has}
 use Rattle.group.specs.View.{view, no-box, box-at}
@@ -28,17 +27,12 @@ returns g c =
     let waiting = self .waiting .jobs .items in
     let limit = g .L·Log .limit in
     let s = view (g .B·Book .state) (g .L·Log .entries) limit self in
-    let in-group : r < length boxes = search needs in
-    let proposed : j < length jobs = search needs in
-    let old : c .index .result .now ≡ box-at boxes r = c .index .ensures ∙ read-any boxes r (c .index .result .now) no-box in-group in
+    let names = c .in-Continue-named .ensures tt in
+    let old : c .index .result .now ≡ box-at boxes r = c .index .ensures ∙ read-any boxes r (c .index .result .now) no-box (names .in-group) in
     let sent : has (c .index .result .now .notices) j ≡ true = sym (c .has .ensures) ∙ c .if-not-has .left in
-    let free = under-way (self .fast) limit (self .leader) (self .epoch) waiting log book jobs boxes r j (has (box-at boxes r .notices) j) in-group proposed (subst (λ (b : Replica). has (b .notices) j ≡ true) old sent) in
+    let free = under-way (self .fast) limit (self .leader) (self .epoch) waiting log book jobs boxes r j (has (box-at boxes r .notices) j) (names .in-group) (names .proposed) (subst (λ (b : Replica). has (b .notices) j ≡ true) old sent) in
     let new = subst (λ (b : Replica). Has q (has (b .requests)) (put (has (b .notices)) j false) (put (has (b .taken)) j true) (put (has (b .pool)) j false)) old (c .noted-at .ensures) in
-    let moves = note-moves (self .fast) limit (self .leader) (self .epoch) waiting log book jobs boxes r j q in-group new in
-    let counted : c .len-3 .result ≡ length jobs = c .len-3 .ensures ∙ self .jobs .ok .0 in
-    record {
-      state = step-made (notice-refusal r j s) s free moves;
-      outcome = told (notice-refusal r j s) free
-          (c .size .ensures ∙ ap (λ n. tally n (has (q .pool))) counted ∙
-          pool-written (self .fast) limit (self .leader) (self .epoch) waiting log book jobs boxes r q in-group _ moves);
-    }
+    let moves = note-moves (self .fast) limit (self .leader) (self .epoch) waiting log book jobs boxes r j q (names .in-group) new in
+    let counted : c .len .result ≡ length jobs = c .len .ensures ∙ self .jobs .ok .0 in
+    let size = c .size .ensures ∙ ap (λ n. tally n (has (q .pool))) counted ∙ pool-written (self .fast) limit (self .leader) (self .epoch) waiting log book jobs boxes r q (names .in-group) (note r j s) moves in
+    record { state = step-made (notice-refusal r j s) s free moves; outcome = told (notice-refusal r j s) free size }
