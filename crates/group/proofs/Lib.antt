@@ -5,3 +5,4 @@ pub mod Sending
 pub mod Noting
 pub mod Hearing
 pub mod Proposing
+pub mod Logged

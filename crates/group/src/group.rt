@@ -10,6 +10,7 @@ use crate::waiting::WaitingList;
 mod hear;
 mod notice;
 mod propose;
+mod receive;
 mod reads;
 
 // A group of boxes over a book and a log. All its memory is taken when it is made.
