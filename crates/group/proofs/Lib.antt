@@ -6,3 +6,4 @@ pub mod Noting
 pub mod Hearing
 pub mod Proposing
 pub mod Logged
+pub mod Receiving

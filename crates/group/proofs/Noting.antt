@@ -54,6 +54,18 @@ module _ {S : Type 0} (fast : Bool) (capacity leader epoch : ℕ) (waiting log :
         answer = λ x y. refl;
       }))
 
+  pub drop-moves : (r c : ℕ) (q : Replica) → r < length boxes →
+      Has q (put (has (box-at boxes r .requests)) c false) (has (box-at boxes r .notices)) (has (box-at boxes r .taken)) (has (box-at boxes r .pool)) →
+      after (set boxes r q) ≡ dropped r c before
+  drop-moves r c q h new =
+      same-state (same-size r q) refl refl (same-boxes (record {
+        request = changed-at boxes r q no-box h (λ b. has (b .requests)) c false (new .requests);
+        notice = kept-at boxes r q no-box h (λ b. has (b .notices)) (new .notices);
+        taken = kept-at boxes r q no-box h (λ b. has (b .taken)) (new .taken);
+        pool = kept-at boxes r q no-box h (λ b. has (b .pool)) (new .pool);
+        answer = λ x y. refl;
+      }))
+
   -- the size of the pool that was written
   pub pool-written : (r : ℕ) (q : Replica) → r < length boxes → (s : State S) → after (set boxes r q) ≡ s → tally (length jobs) (has (q .pool)) ≡ pool-size s r
   pool-written r q h s e =

@@ -1,5 +1,5 @@
 ghost use mathlib.Core.Path.{_≡_};
-ghost use mathlib.Core.Bool.{true, cond};
+ghost use mathlib.Core.Bool.{true, cond, not, _&&_};
 ghost use mathlib.Core.List.{[], _∷_, _++_};
 ghost use Prim.Native.Nat.{_<_, _≤_};
 ghost use lib.ListN.{length};
@@ -46,11 +46,14 @@ impl WaitingList {
         contains(self.jobs.as_slice(), job)
     }
 
-    // The job joins the end, unless it waits already.
-    pub fn join(&mut self, job: u16)
+    // A job that the leader receives joins the end, unless it waits already.
+    pub fn join(&mut self, job: u16, leads: bool)
         requires { ⌜ job < 256 ⌝ }
-        ensures { λ _. ⌜ vec-items (now (self .exit) .jobs) ≡ vec-items (now (self .entry) .jobs) ++ cond (mem job (vec-items (now (self .entry) .jobs))) [] (job ∷ []) ⌝ }
+        ensures { λ _. ⌜ vec-items (now (self .exit) .jobs) ≡ vec-items (now (self .entry) .jobs) ++ cond (leads && not (mem job (vec-items (now (self .entry) .jobs)))) (job ∷ []) [] ⌝ }
     {
+        if !leads {
+            return;
+        }
         if !self.has(job as usize) {
             self.jobs.push_reserved(job);
         }

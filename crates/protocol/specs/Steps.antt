@@ -31,6 +31,12 @@ abbrev pub place-after : ℕ → ℕ → List ℕ → Option ℕ
 place-after n c [] = None
 place-after n c (x ∷ xs) = cond (eqb c x) (Some (suc n)) (place-after (suc n) c xs)
 
+-- what a receive tells of its reply
+abbrev pub verdict : Reply → Received
+verdict (No e) = SaidNo
+verdict (Yes e) = SaidYes
+verdict (Told e t) = SaidYes
+
 -- Those that ask nothing of the book.
 module _ {S : Type 0} where
   -- Propose: the next job, in transit to every box.
@@ -203,11 +209,6 @@ module _ {S : Type 0} (m : Meaning S) where
 
   abbrev pub receive : ℕ → ℕ → State S → State S
   receive r c s = cond (drops s r c) (dropped r c s) (take r c s)
-
-  abbrev pub verdict : Reply → Received
-  verdict (No e) = SaidNo
-  verdict (Yes e) = SaidYes
-  verdict (Told e t) = SaidYes
 
   abbrev pub received : ℕ → ℕ → State S → Received
   received r c s = cond (drops s r c) Dropped (verdict (reply s r c))

@@ -1,0 +1,49 @@
+-- A request that is taken: what the code does is what the protocol does.
+use mathlib.Core.Path.{_≡_, refl, sym, ap, _∙_}
+use mathlib.Core.Bool.{Bool, true, false, _||_}
+use mathlib.Core.List.{List, _++_}
+use Prim.Native.Nat.{ℕ, _<_}
+use native.Mathlib.Omega.{arith}
+use lib.ListN.{length, length-set, set}
+use Rattle.base.specs.Meaning.{Meaning}
+use Rattle.protocol.specs.declared.answers.Answer.the-variants.{Transit}
+use Rattle.protocol.specs.Tests.{put}
+use Rattle.protocol.specs.State.{State}
+use Rattle.protocol.specs.Steps.{joins, pools, reply, take}
+use Rattle.protocol.proofs.Same.{same-state, same-jobs, same-boxes}
+use Rattle.group.specs.declared.job.Job.{Job}
+use Rattle.group.specs.declared.replica.Replica.{Replica}
+use Rattle.group.specs.Sets.{has, Has}
+use Rattle.group.specs.Jobs.{Holds, answer-of}
+use Rattle.group.specs.View.{seen, no-box, no-job, box-at, job-at}
+use Rattle.group.proofs.Places.{kept, kept-at, changed-at}
+use Rattle.group.proofs.Hearing.{swapped}
+
+module _ {S : Type 0} (m : Meaning S) (fast : Bool) (capacity leader epoch : ℕ) (waiting log : List ℕ) (book : S) (jobs : List Job) (boxes : List Replica) where
+  abbrev before : State S
+  before = seen fast capacity leader epoch waiting log book jobs boxes
+
+  pub take-moves : (r c : ℕ) (in-line : List ℕ) (p : Replica) (q : Job) → r < length boxes → c < length jobs →
+      in-line ≡ waiting ++ joins before r c →
+      Has p (put (has (box-at boxes r .requests)) c false) (has (box-at boxes r .notices)) (has (box-at boxes r .taken)) (put (has (box-at boxes r .pool)) c (pools m before r c || has (box-at boxes r .pool) c)) →
+      Holds q (job-at jobs c .«record») (put (answer-of (job-at jobs c)) r (Transit (reply m before r c))) (job-at jobs c .phase) (job-at jobs c .given) →
+      seen fast capacity leader epoch in-line log book (set jobs c q) (set boxes r p) ≡ take m r c before
+  take-moves r c in-line p q hr hc line box-new job-new =
+      same-state
+      (ap (λ (n : ℕ). record { size = n; fast = fast; capacity = capacity }) (length-set boxes r p))
+      (ap (λ (xs : List ℕ). record { leader = leader; epoch = epoch; waiting = xs; log = log; book = book }) line)
+      (same-jobs (record {
+        count = length-set jobs c q;
+        job = kept jobs c q no-job hc (λ j. j .«record») (job-new .job);
+        phase = kept jobs c q no-job hc (λ j. j .phase) (job-new .phase);
+        given = kept jobs c q no-job hc (λ j. j .given) (job-new .given);
+      }))
+      (same-boxes (record {
+        request = changed-at boxes r p no-box hr (λ b. has (b .requests)) c false (box-new .requests);
+        notice = kept-at boxes r p no-box hr (λ b. has (b .notices)) (box-new .notices);
+        taken = kept-at boxes r p no-box hr (λ b. has (b .taken)) (box-new .taken);
+        pool = changed-at boxes r p no-box hr (λ b. has (b .pool)) c (pools m before r c || has (box-at boxes r .pool) c) (box-new .pool);
+        answer = λ b j.
+            changed-at jobs c q no-job hc answer-of r (Transit (reply m before r c)) (job-new .answer) j b ∙
+            swapped jobs r c (Transit (reply m before r c)) b j;
+      }))
