@@ -7,3 +7,4 @@ pub mod Hearing
 pub mod Proposing
 pub mod Logged
 pub mod Receiving
+pub mod Syncing

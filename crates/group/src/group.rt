@@ -7,11 +7,14 @@ use crate::job::Job;
 use crate::replica::Replica;
 use crate::waiting::WaitingList;
 
+mod change;
 mod hear;
 mod notice;
 mod propose;
 mod receive;
 mod reads;
+mod sync;
+mod query;
 
 // A group of boxes over a book and a log. All its memory is taken when it is made.
 #[derive(Drop)]

@@ -4,6 +4,7 @@ mod job;
 mod job_set;
 mod messages;
 mod replica;
+mod votes;
 mod waiting;
 
 pub use group::Group;

@@ -1,5 +1,7 @@
 ghost use mathlib.Core.Path.{_≡_};
-ghost use Rattle.protocol.specs.Votes.{votes, no-voters, with-voter};
+ghost use mathlib.Core.Bool.{_&&_};
+ghost use lib.Dec.{leb};
+ghost use Rattle.protocol.specs.Votes.{votes, no-voters, with-voter, vote-count, has-stranger};
 
 // A set of voters, by the digits 0 to 9.
 #[derive(Clone, Copy, PartialEq, Eq, Debug)]
@@ -33,5 +35,38 @@ impl Voters {
         } else {
             false
         }
+    }
+
+    // How many digits are in the set.
+    pub fn count(&self) -> u32
+        ensures { λ r. ⌜ r ≡ vote-count (now (self .entry)) ⌝ }
+    {
+        let mut n = 0;
+        for d in 0..10 {
+            if self.has(d) {
+                n += 1;
+            }
+        }
+        n
+    }
+
+    // The digit is in the set, and is no box of a group of `size`.
+    fn names_beyond(&self, size: u32, digit: u32) -> bool
+        ensures { λ r. ⌜ r ≡ (leb size digit && votes (now (self .entry)) digit) ⌝ }
+    {
+        size <= digit && self.has(digit)
+    }
+
+    // Some digit in the set is no box of a group of `size`.
+    pub fn has_stranger(&self, size: u32) -> bool
+        ensures { λ r. ⌜ r ≡ has-stranger size (now (self .entry)) ⌝ }
+    {
+        let mut found = false;
+        for d in 0..10 {
+            if self.names_beyond(size, d) {
+                found = true;
+            }
+        }
+        found
     }
 }
