@@ -8,3 +8,5 @@ pub mod Proposing
 pub mod Logged
 pub mod Receiving
 pub mod Syncing
+pub mod Changing
+pub mod Making

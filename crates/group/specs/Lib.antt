@@ -1,3 +1,4 @@
 pub mod Sets
 pub mod Jobs
 pub mod View
+pub mod Made

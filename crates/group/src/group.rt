@@ -9,6 +9,7 @@ use crate::waiting::WaitingList;
 
 mod change;
 mod hear;
+mod new;
 mod notice;
 mod propose;
 mod receive;

@@ -2,7 +2,6 @@ ghost use mathlib.Core.Path.{_≡_};
 ghost use mathlib.Core.Bool.{true, cond, not, _&&_};
 ghost use mathlib.Core.List.{[], _∷_, _++_};
 ghost use Prim.Native.Nat.{_<_, _≤_};
-ghost use lib.ListN.{length};
 ghost use Rattle.std.specs.Of.Vec.{vec-items, vec-cap};
 ghost use Rattle.std.specs.Vec.{made};
 ghost use Rattle.protocol.specs.Tests.{mem, distinct, all-below, ascending};
@@ -32,12 +31,6 @@ impl WaitingList {
         ensures { λ r. ⌜ now r ≡ vec-items (now (self .entry) .jobs) ⌝ }
     {
         self.jobs.as_slice()
-    }
-
-    pub fn len(&self) -> usize
-        ensures { λ r. ⌜ r ≡ length (vec-items (now (self .entry) .jobs)) ⌝ }
-    {
-        self.jobs.len()
     }
 
     pub fn has(&self, job: usize) -> bool

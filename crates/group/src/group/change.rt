@@ -68,4 +68,23 @@ impl<B: Book, L: Log> Group<B, L> {
         }
         Ok(())
     }
+
+    // A new leader, with these voters. What enough of their pools hold is kept, and waits in ascending number.
+    pub fn change(&mut self, leader: u32, voters: Voters) -> Result<Changed, Fault>
+        ensures state { λ _. ⌜ view (B·Book .state) (L·Log .entries) (L·Log .limit) (now (self .exit)) ≡ step (B·Book .meaning) (Change leader voters) (view (B·Book .state) (L·Log .entries) (L·Log .limit) (now (self .entry))) ⌝ }
+        ensures outcome { λ r. ⌜ r ≡ settled (change-refusal leader voters (view (B·Book .state) (L·Log .entries) (L·Log .limit) (now (self .entry)))) (changed voters (view (B·Book .state) (L·Log .entries) (L·Log .limit) (now (self .entry)))) ⌝ }
+    {
+        self.allows(leader, voters)?;
+        let kept = self.recover(voters);
+        let l = leader as usize;
+        let at = self.boxes[l];
+        self.boxes[l] = at.with_pool(kept);
+        self.waiting.refill(&kept, self.jobs.len() as u16);
+        self.leader = leader;
+        self.epoch += 1;
+        Ok(Changed {
+            epoch: self.epoch,
+            recovered: kept.size(self.jobs.len()),
+        })
+    }
 }
