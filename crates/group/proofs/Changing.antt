@@ -82,5 +82,5 @@ module _ {S : Type 0} (fast : Bool) (capacity leader epoch : ℕ) (waiting log :
     pub change-told : (n : ℕ) → n ≡ tally (length jobs) (has set-kept) → _≡_ {A = Changed} (record { epoch = epoch + 1; recovered = n }) (changed voters before)
     change-told n e =
         let many : n ≡ length (recovered-jobs before voters) =
-            e ∙ ap (tally (length jobs)) keeps ∙ sym (length-ascending (length jobs) (recovered before voters)) in
+        e ∙ ap (tally (length jobs)) keeps ∙ sym (length-ascending (length jobs) (recovered before voters)) in
         λ i. record { epoch = add-one epoch i; recovered = many i }

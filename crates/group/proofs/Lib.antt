@@ -10,3 +10,4 @@ pub mod Receiving
 pub mod Syncing
 pub mod Changing
 pub mod Making
+pub mod Asking

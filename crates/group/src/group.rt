@@ -12,10 +12,10 @@ mod hear;
 mod new;
 mod notice;
 mod propose;
-mod receive;
-mod reads;
-mod sync;
 mod query;
+mod reads;
+mod receive;
+mod sync;
 
 // A group of boxes over a book and a log. All its memory is taken when it is made.
 #[derive(Drop)]

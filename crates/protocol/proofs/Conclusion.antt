@@ -22,7 +22,7 @@ use Rattle.protocol.proofs.Said.{said}
 use Rattle.protocol.specs.Answers.{agrees}
 use Rattle.protocol.specs.Steps.{drops, dropped, take}
 use Rattle.protocol.specs.Histories.{refusal, step, run, history}
-use Rattle.protocol.specs.Promise.{Waits-first, Kept, Never-overtaken, Stays-confirmed, Confirmations-stand}
+use Rattle.protocol.specs.Promise.{Waits-first, Kept, Never-overtaken, Stays-confirmed, Reached, Confirmations-stand}
 use Rattle.protocol.proofs.Counting.{shared}
 use Rattle.protocol.proofs.Room.{few-distinct}
 use Rattle.protocol.proofs.Lists.{distinct-left, clear-split}
@@ -105,3 +105,7 @@ stands m laws capacity = record {
   never-overtaken = never-overtaken m laws capacity;
   stays-confirmed = stays-confirmed m laws capacity;
 }
+
+-- For code that meets the definitions: what is promised holds of every state that calls led to.
+pub reached-kept : {S : Type 0} (m : Meaning S) → Laws m → (capacity : ℕ) (s : State S) → Reached m capacity s → Kept m s
+reached-kept m laws capacity s (k, calls, e) = rw e (kept m (history m capacity k calls) (inv-history m laws capacity k calls))

@@ -3,6 +3,7 @@ use mathlib.Core.Path.{_≡_}
 use mathlib.Core.Bool.{true, false}
 use mathlib.Core.List.{List, [], _∷_}
 use Prim.Native.Nat.{ℕ}
+use Rattle.books.specs.Cases.{Clash-cases}
 use Rattle.protocol.specs.declared.setting.Setting.{Setting}
 use Rattle.protocol.specs.declared.calls.Call.{Call}
 use Rattle.protocol.specs.declared.calls.Call.the-variants.{Propose, Receive}
@@ -35,6 +36,8 @@ pub record Cases : Type 0 where
   pub five-boxes : Counted 5 2 3 4 2 2
   pub seven-boxes : Counted 7 3 4 6 3 2
   pub nine-boxes : Counted 9 4 5 7 3 3
+  -- slots 7 and 7, 7 and 8; vehicle 3 at 8 to 10 with 10 to 12, with 9 to 12, with vehicle 4
+  pub clashes : Clash-cases (true ∷ false ∷ false ∷ true ∷ false ∷ [])
   -- held by pools 0 and 1 of the voters 0, 1, 2; and by pool 0 alone
   pub held-by-two : recovered (received-by (Receive 0 0 ∷ Receive 1 0 ∷ [])) first-three 0 ≡ true
   pub held-by-one : recovered (received-by (Receive 0 0 ∷ [])) first-three 0 ≡ false

@@ -1,5 +1,6 @@
 pub mod Tests
 pub mod Counts
+pub mod Reported
 pub mod Votes
 pub mod Written
 pub mod Answers

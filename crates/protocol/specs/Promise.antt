@@ -62,6 +62,10 @@ module _ {S : Type 0} (m : Meaning S) where
       (h₁ h₂ : List Call) (c t e : ℕ) →
       Confirmed (history m capacity k h₁) c t e → Confirmed (history m capacity k (h₁ ++ h₂)) c t e
 
+  -- a state that some history leads to
+  abbrev pub Reached : ℕ → State S → Type 0
+  Reached capacity s = (k : Setting) × (calls : List Call) × (s ≡ history m capacity k calls)
+
 -- The whole, of a book and a log's capacity: for every setting, every history and every point of it.
 pub record Confirmations-stand {S : Type 0} (m : Meaning S) (capacity : ℕ) : Type 0 where
   pub every-point : (k : Setting) (calls : List Call) → Kept m (history m capacity k calls)

@@ -1,4 +1,5 @@
 ghost use mathlib.Core.Path.{_≡_};
+ghost use Rattle.protocol.specs.Reported.{quorums};
 ghost use Rattle.protocol.specs.Counts.{tolerated, electing, confirming, recovering, blocking-number};
 
 // How many of `size` boxes may fail.
@@ -35,4 +36,24 @@ pub fn blocking(size: u32) -> u32
     ensures { λ r. ⌜ r ≡ blocking-number size ⌝ }
 {
     size.saturating_sub(fast_quorum(size)) + 1
+}
+
+// The three counts that a new group reports.
+#[derive(Clone, Copy, PartialEq, Eq, Debug)]
+pub struct Quorums {
+    pub fast: u32,
+    pub recovery: u32,
+    pub blocking: u32,
+}
+
+impl Quorums {
+    pub fn among(size: u32) -> Quorums
+        ensures { λ r. ⌜ r ≡ quorums size ⌝ }
+    {
+        Quorums {
+            fast: fast_quorum(size),
+            recovery: recovery_quorum(size),
+            blocking: blocking(size),
+        }
+    }
 }

@@ -28,7 +28,8 @@ impl<B: Book, L: Log> Group<B, L> {
     fn drops(&self, replica: u32, job: u32) -> bool
         ensures { λ b. ⌜ b ≡ drops (view (B·Book .state) (L·Log .entries) (L·Log .limit) (now (self .entry))) replica job ⌝ }
     {
-        self.has_taken(replica as usize, job as usize) || (replica == self.leader && self.logged(job))
+        self.has_taken(replica as usize, job as usize)
+            || (replica == self.leader && self.logged(job))
     }
 
     // The job joins the box's pool.

@@ -64,7 +64,7 @@ returns g c =
     let line : c .refill .last .self .jobs .items ≡ ascending (length jobs) (has kept) = c .refill .ensures ∙ ap (λ n. ascending n (has kept)) number in
     let moves = change-moves (self .fast) limit (self .leader) (self .epoch) waiting log book jobs boxes l v in-group kept p (c .recover-kept .ensures) new in
     let all : seen (self .fast) limit l (self .epoch + 1) (c .refill .last .self .jobs .items) log book jobs (set boxes l p) ≡ change l v s =
-        ap (λ (xs : List ℕ). seen (self .fast) limit l (self .epoch + 1) xs log book jobs (set boxes l p)) line ∙ moves in
+    ap (λ (xs : List ℕ). seen (self .fast) limit l (self .epoch + 1) xs log book jobs (set boxes l p)) line ∙ moves in
     record {
       state = step-made (change-refusal l v s) s free all;
       outcome = told (change-refusal l v s) free

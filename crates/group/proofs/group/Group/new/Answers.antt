@@ -19,8 +19,7 @@ returns g c =
     let many : length (boxes .items) ≡ k .size = sym (boxes .ok .0) ∙ empty .many in
     let fresh = new-made (boxes .items) (λ r h. empty .each r (let e = many in omega arith)) (g .B·Book .meaning) (g .L·Log .limit) k many in
     let waits = c .in-Continue-waiting .ensures tt in
-    let jobs = c .in-Continue-jobs .ensures tt .made .0 in
-    (
+    let jobs = c .in-Continue-jobs .ensures tt .made .0 in (
       settled-ok (setting-refusal k) (c .in-Continue-check .ensures tt),
       (λ i. seen (k .fast) (g .L·Log .limit) (k .leader) 1 (waits i) (c .fresh-2 .ensures i) (c .fresh .ensures i) (jobs i) (boxes .items)) ∙ fresh,
     )

@@ -66,5 +66,5 @@ returns g c =
     let moves = propose-moves (self .fast) limit (self .leader) (self .epoch) waiting log book jobs boxes (c .args .record) (c .new .result) (c .request-all .last .boxes) (c .new .ensures) sent in
     let refills = refilled-is (self .boxes) (c .request-all .last .boxes) (sent .many ∙ sym (self .boxes .ok .0)) in
     let pushed : seen (self .fast) limit (self .leader) (self .epoch) waiting log book (c .push-reserved .last .self .items) (refilled (self .boxes) (c .request-all .last .boxes) .items) ≡ propose (c .args .record) s =
-        (λ i. seen (self .fast) limit (self .leader) (self .epoch) waiting log book (c .push-reserved .ensures .items i) (refills i)) ∙ moves in
+    (λ i. seen (self .fast) limit (self .leader) (self .epoch) waiting log book (c .push-reserved .ensures .items i) (refills i)) ∙ moves in
     record { state = step-made (propose-refusal misfit s) s free pushed; outcome = told (propose-refusal misfit s) free number }

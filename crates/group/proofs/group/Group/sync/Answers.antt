@@ -54,7 +54,7 @@ returns g c =
     let free = may-sync m (self .fast) limit (self .leader) (self .epoch) waiting log book jobs boxes j rest line (took .0) in
     let moves = sync-moves m (self .fast) limit (self .leader) (self .epoch) waiting log book jobs boxes j rest q (c .notify-all .last .boxes) below new sent in
     let all : seen (self .fast) limit (self .leader) (self .epoch) (c .advance .last .self .jobs .items) (g .L·Log .entries (c .add .last .self)) (g .B·Book .state (c .apply-result .last .self)) (set jobs j q) (refilled (self .boxes) (c .notify-all .last .boxes) .items) ≡ log-job m j rest s =
-        (λ i. seen (self .fast) limit (self .leader) (self .epoch) (c .advance .ensures i) (grown i) (moved-on i) (set jobs j q) (refills i)) ∙ moves in
+    (λ i. seen (self .fast) limit (self .leader) (self .epoch) (c .advance .ensures i) (grown i) (moved-on i) (set jobs j q) (refills i)) ∙ moves in
     record {
       state = step-made (sync-refusal waiting s) s free (all ∙ sym (ap (λ xs. sync m xs s) line));
       outcome = told (sync-refusal waiting s) free (ap (λ (n : ℕ). record { job = j; result = n }) result ∙ sym (ap (λ xs. synced m xs s) line));

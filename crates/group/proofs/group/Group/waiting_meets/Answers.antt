@@ -18,7 +18,7 @@ loop-i-again g c =
     let waiting = c .as-slice-waiting .result .now in
     let more = any-of-more (meets (g .B·Book .meaning) (s .jobs .job) (c .args .c)) waiting (c .loop-i .i) (c .loop-i-test .taken) in
     elim (c .if-meets .came) [
-        then-meets w ↦ any-hit _ _ _ more (c .meets .ensures) (w .if-meets .taken) (w .met-is)
+      | then-meets w ↦ any-hit _ _ _ more (c .meets .ensures) (w .if-meets .taken) (w .met-is)
       | else-meets w ↦ any-miss _ _ _ more (c .meets .ensures) (w .if-meets .left) (c .loop-i .inv) (w .met-is)
     ]
 

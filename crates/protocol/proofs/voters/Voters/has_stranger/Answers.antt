@@ -13,7 +13,7 @@ pub loop-d-again : need.loop-d-again
 loop-d-again c =
     let more = any-below-more (c .loop-d .d) (λ d. leb (c .args .size) d && votes (c .args .self .now) d) in
     elim (c .if-names-beyond .came) [
-        then-names-beyond w ↦ any-hit _ _ _ more (c .names-beyond .ensures) (w .if-names-beyond .taken) (w .found-is)
+      | then-names-beyond w ↦ any-hit _ _ _ more (c .names-beyond .ensures) (w .if-names-beyond .taken) (w .found-is)
       | else-names-beyond w ↦ any-miss _ _ _ more (c .names-beyond .ensures) (w .if-names-beyond .left) (c .loop-d .inv) (w .found-is)
     ]
 
