@@ -4,4 +4,5 @@ pub mod Letters
 pub mod Forms
 pub mod Fields
 pub mod Reading
+pub mod Texts
 pub mod Writing

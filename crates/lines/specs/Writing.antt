@@ -1,8 +1,8 @@
 -- The line of a step, which steps have none, and what the writer does to a buffer.
-use mathlib.Core.Bool.{Bool, cond, not}
+use mathlib.Core.Bool.{Bool, cond}
 use mathlib.Core.List.{List, [], _∷_, _++_}
 use Prim.Native.Nat.{ℕ, zero, suc, _+_}
-use lib.Dec.{ltb}
+use lib.Dec.{eqb, ltb}
 use lib.ListN.{length, drop}
 use Rattle.std.specs.Written.{decimal}
 use Rattle.std.specs.declared.option.Option.{Option}
@@ -13,7 +13,6 @@ use Rattle.base.specs.declared.fault.Fault.{Fault}
 use Rattle.base.specs.declared.fault.Refusal.the-variants.{ShortBuffer}
 use Rattle.protocol.specs.declared.calls.Call.the-variants.{Propose, Receive, Hear, Sync, Notice, Change, Query}
 use Rattle.protocol.specs.declared.voters.Voters.{Voters}
-use Rattle.protocol.specs.Tests.{any-below}
 use Rattle.protocol.specs.Votes.{votes}
 use Rattle.lines.specs.declared.step.Step.{Step}
 use Rattle.lines.specs.declared.step.Step.the-variants.{Start, Call as Asks}
@@ -30,9 +29,9 @@ members (suc k) d v = cond (votes v d) ((48 + d) ∷ members k (d + 1) v) (membe
 unfoldable pub set-of : Voters → List ℕ
 set-of v = members 10 0 v
 
--- no voter is named; shut too
-unfoldable pub nobody : Voters → Bool
-nobody v = not (any-below 10 (votes v))
+-- no voter is named
+abbrev pub nobody : Voters → Bool
+nobody v = eqb (length (set-of v)) 0
 
 abbrev pub bit : Bool → ℕ
 bit b = cond b 1 0

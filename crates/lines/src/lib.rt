@@ -8,6 +8,8 @@ mod number;
 mod read;
 mod set;
 mod step;
+mod text;
+mod write;
 
 pub use check::lidvauma_check_line;
 pub use limits::LARGEST;
@@ -16,3 +18,4 @@ pub use read::read_line;
 pub use step::Step;
 pub use step::StepDebug;
 pub use step::StepPartialEq;
+pub use write::write_line;
