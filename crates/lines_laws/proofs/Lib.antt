@@ -1,0 +1,5 @@
+pub mod Numbers
+pub mod Sets
+pub mod Parts
+pub mod Written
+pub mod Rebuilt
