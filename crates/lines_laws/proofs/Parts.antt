@@ -109,15 +109,15 @@ one-tab [] n z = absurd (omega arith)
 one-tab (c ∷ cs) n z =
     ⊎-elim
     (λ e.
-      let t : tabs cs ≡ n = omega (arith, sym (cond-true (eqb c 9) (1 + tabs cs) (tabs cs) e) ∙ z) in
-      let f = cond-true (eqb c 9) [] (c ∷ front cs) e in
-      let b = cond-true (eqb c 9) cs (back cs) e in
-      (ap (λ x. x ++ (9 ∷ back (c ∷ cs))) f ∙ (ap (λ x. 9 ∷ x) b ∙ ap (λ x. x ∷ cs) (sym (eqb-true c 9 e))), ap tabs b ∙ t))
+    let t : tabs cs ≡ n = omega (arith, sym (cond-true (eqb c 9) (1 + tabs cs) (tabs cs) e) ∙ z) in
+    let f = cond-true (eqb c 9) [] (c ∷ front cs) e in
+    let b = cond-true (eqb c 9) cs (back cs) e in
+    (ap (λ x. x ++ (9 ∷ back (c ∷ cs))) f ∙ (ap (λ x. 9 ∷ x) b ∙ ap (λ x. x ∷ cs) (sym (eqb-true c 9 e))), ap tabs b ∙ t))
     (λ e.
-      let i = one-tab cs n (sym (cond-false (eqb c 9) (1 + tabs cs) (tabs cs) e) ∙ z) in
-      let f = cond-false (eqb c 9) [] (c ∷ front cs) e in
-      let b = cond-false (eqb c 9) cs (back cs) e in
-      (ap (λ x. x ++ (9 ∷ back (c ∷ cs))) f ∙ (ap (λ x. c ∷ (front cs ++ (9 ∷ x))) b ∙ ap (λ x. c ∷ x) (i .0)), ap tabs b ∙ i .1))
+    let i = one-tab cs n (sym (cond-false (eqb c 9) (1 + tabs cs) (tabs cs) e) ∙ z) in
+    let f = cond-false (eqb c 9) [] (c ∷ front cs) e in
+    let b = cond-false (eqb c 9) cs (back cs) e in
+    (ap (λ x. x ++ (9 ∷ back (c ∷ cs))) f ∙ (ap (λ x. c ∷ (front cs ++ (9 ∷ x))) b ∙ ap (λ x. c ∷ x) (i .0)), ap tabs b ∙ i .1))
     (cases-bool (eqb c 9))
 
 -- the fields `fs` are those of the bytes, one after the other
@@ -137,10 +137,10 @@ ended-line [] e = cc
 ended-line (c ∷ cs) e =
     ⊎-elim
     (λ t.
-      let none = nil-from-length cs (eqb-true (length cs) 0 (sym (cond-true (eqb c 10) _ _ t) ∙ e)) in
-      ap (λ x. x ++ (10 ∷ [])) (cond-true (eqb c 10) [] (c ∷ body cs) t)
-      ∙ (ap (λ x. 10 ∷ x) (sym none) ∙ ap (λ x. x ∷ cs) (sym (eqb-true c 10 t))))
+    let none = nil-from-length cs (eqb-true (length cs) 0 (sym (cond-true (eqb c 10) _ _ t) ∙ e)) in
+    ap (λ x. x ++ (10 ∷ [])) (cond-true (eqb c 10) [] (c ∷ body cs) t)
+    ∙ (ap (λ x. 10 ∷ x) (sym none) ∙ ap (λ x. x ∷ cs) (sym (eqb-true c 10 t))))
     (λ t.
-      let q = and-parts (allowed c) (ended cs) (sym (cond-false (eqb c 10) _ _ t) ∙ e) in
-      ap (λ x. x ++ (10 ∷ [])) (cond-false (eqb c 10) [] (c ∷ body cs) t) ∙ ap (λ x. c ∷ x) (ended-line cs (q .1)))
+    let q = and-parts (allowed c) (ended cs) (sym (cond-false (eqb c 10) _ _ t) ∙ e) in
+    ap (λ x. x ++ (10 ∷ [])) (cond-false (eqb c 10) [] (c ∷ body cs) t) ∙ ap (λ x. c ∷ x) (ended-line cs (q .1)))
     (cases-bool (eqb c 10))

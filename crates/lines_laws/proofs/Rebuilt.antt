@@ -193,8 +193,8 @@ module _ (line : List ℕ) (s : Step) (f : fits line ≡ true) where
   pick c want r q here other e =
       ⊎-elim
       (λ t.
-        let n = cond-ok (eqb (1 + tabs (body line)) want) r (refused WrongFieldCount) s (t .1) in
-        here (eqb-true (letter (front (body line))) c (t .0), eqb-true (1 + tabs (body line)) want (n .0)) (n .1))
+      let n = cond-ok (eqb (1 + tabs (body line)) want) r (refused WrongFieldCount) s (t .1) in
+      here (eqb-true (letter (front (body line))) c (t .0), eqb-true (1 + tabs (body line)) want (n .0)) (n .1))
       other
       (either (eqb (letter (front (body line))) c) (counted (1 + tabs (body line)) want r) q s e)
 

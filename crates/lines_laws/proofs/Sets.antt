@@ -58,22 +58,22 @@ set-read (suc k) d low v acc n l t a p =
     let is = votes-is v d (omega arith) in
     let on : votes v d ≡ true → set-after low acc (members (suc k) d v) ≡ Some v =
     (λ e.
-      let m = cond-true (votes v d) ((48 + d) ∷ members k (d + 1) v) (members k (d + 1) v) e in
-      let off : 48 + d - 48 ≡ d = omega arith in
-      let len : length (take d (v .named)) ≡ d = length-take-le d (v .named) (omega arith) in
-      let w : with-voter acc d .named ≡ take (d + 1) (v .named) ++ replicate k false =
-      cond-true (ltb d 10) _ _ (lt-ltb d 10 (omega arith))
-      ∙ (ap (λ x. lists.set x d true) a
-      ∙ (set-at (take d (v .named)) false (replicate k false) true d len ∙ sym (front-more (v .named) d k true lt (sym is ∙ e)))) in
-      ap (set-after low acc) m
-      ∙ (cond-true (rises low (48 + d)) _ _ (rises-at low d l (omega arith))
-      ∙ rw off (set-read k (d + 1) (d + 1) v (with-voter acc d) (omega arith) (omega arith) t w (inl (omega arith))))) in
+    let m = cond-true (votes v d) ((48 + d) ∷ members k (d + 1) v) (members k (d + 1) v) e in
+    let off : 48 + d - 48 ≡ d = omega arith in
+    let len : length (take d (v .named)) ≡ d = length-take-le d (v .named) (omega arith) in
+    let w : with-voter acc d .named ≡ take (d + 1) (v .named) ++ replicate k false =
+    cond-true (ltb d 10) _ _ (lt-ltb d 10 (omega arith))
+    ∙ (ap (λ x. lists.set x d true) a
+    ∙ (set-at (take d (v .named)) false (replicate k false) true d len ∙ sym (front-more (v .named) d k true lt (sym is ∙ e)))) in
+    ap (set-after low acc) m
+    ∙ (cond-true (rises low (48 + d)) _ _ (rises-at low d l (omega arith))
+    ∙ rw off (set-read k (d + 1) (d + 1) v (with-voter acc d) (omega arith) (omega arith) t w (inl (omega arith))))) in
     let past : votes v d ≡ false → set-after low acc (members (suc k) d v) ≡ Some v =
     (λ e.
-      let m = cond-false (votes v d) ((48 + d) ∷ members k (d + 1) v) (members k (d + 1) v) e in
-      ap (set-after low acc) m
-      ∙ set-read k (d + 1) low v acc (omega arith) (omega arith) t (a ∙ sym (front-more (v .named) d k false lt (sym is ∙ e)))
-      (⊎-elim (λ h. inl h) (λ h. inr (rw m at h)) p)) in
+    let m = cond-false (votes v d) ((48 + d) ∷ members k (d + 1) v) (members k (d + 1) v) e in
+    ap (set-after low acc) m
+    ∙ set-read k (d + 1) low v acc (omega arith) (omega arith) t (a ∙ sym (front-more (v .named) d k false lt (sym is ∙ e)))
+    (⊎-elim (λ h. inl h) (λ h. inr (rw m at h)) p)) in
     ⊎-elim on past (cases-bool (votes v d))
 
 pub set-back : (v : Voters) → length (v .named) ≡ 10 → 0 < length (set-of v) → set (set-of v) ≡ Some v
@@ -144,7 +144,7 @@ set-tells (c ∷ cs) low acc v l t blank e =
     (λ i h. votes-other acc (c - 48) i d (λ x. omega arith) ∙ blank i (omega arith)) (p .1) in
     let skipped : members (10 - low) low v ≡ members (10 - (c - 48)) (c - 48) v =
     rw at at (skip (c - 48 - low) low v (omega arith)
-      (λ i a b. rest .keeps i (omega arith) ∙ (votes-other acc (c - 48) i d (λ x. omega arith) ∙ blank i a))) in
+    (λ i a b. rest .keeps i (omega arith) ∙ (votes-other acc (c - 48) i d (λ x. omega arith) ∙ blank i a))) in
     let here = members-on (c - 48) v d (sym (rest .keeps (c - 48) (omega arith) ∙ votes-same acc (c - 48) d t)) in
     let byte : 48 + (c - 48) ≡ c = omega arith in
     record {

@@ -32,7 +32,7 @@ returns-then-not-allowed c =
     let line = c .args .line .now in
     let on = ended-on line (c .loop-i .i) (c .loop-i-test .taken) (c .if-b-eq10 .left) in (
       fits-is line (c .if-line-gt-LONGEST .left)
-      ∙ (sym (c .loop-i .inv .0) ∙ (on ∙ ap (λ b. b && ended (drop (c .loop-i .i + 1) line)) (sym (c .if-not-allowed .ensures tt)))),
+          ∙ (sym (c .loop-i .inv .0) ∙ (on ∙ ap (λ b. b && ended (drop (c .loop-i .i + 1) line)) (sym (c .if-not-allowed .ensures tt)))),
       c .refused-then-not-allowed .ensures,
     )
 
