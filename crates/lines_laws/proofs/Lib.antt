@@ -3,3 +3,4 @@ pub mod Sets
 pub mod Parts
 pub mod Written
 pub mod Rebuilt
+pub mod Rounds

@@ -34,10 +34,10 @@ use Rattle.lines_laws.proofs.Written.{All-small}
 
 -- what an accepted answer tells of the tests on its way
 
-err-ok : {T : Type 0} (e : Fault) (x : T) → Err e ≡ Ok x → ⊥
+pub err-ok : {T : Type 0} (e : Fault) (x : T) → Err e ≡ Ok x → ⊥
 err-ok e x p = let z : _≡_ {A = ℕ} 0 1 = cc in omega arith
 
-ok-same : {T : Type 0} (x y : T) → _≡_ {A = Result T Fault} (Ok x) (Ok y) → x ≡ y
+pub ok-same : {T : Type 0} (x y : T) → _≡_ {A = Result T Fault} (Ok x) (Ok y) → x ≡ y
 ok-same x y e = cc
 
 cond-ok : {T : Type 0} (b : Bool) (r : Result T Fault) (e : Fault) (x : T) → cond b r (Err e) ≡ Ok x → (b ≡ true) × (r ≡ Ok x)

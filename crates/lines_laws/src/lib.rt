@@ -1,6 +1,5 @@
 // What the reader and the writer of lines are to each other.
-mod theorem;
+mod round;
 
-pub use theorem::one_step;
-pub use theorem::reads_back;
-pub use theorem::writes_back;
+pub use round::copy_line;
+pub use round::echo;

@@ -42,9 +42,27 @@ fn each_letter() -> Result<(), Fail> {
     };
     gives(b"W\t5\t3\t1\n", Step::Start(setting))?;
     gives(b"P\t1\t2\t3\t40\t999999\n", Step::Call(Call::Propose(job)))?;
-    gives(b"R\t1\t20\n", Step::Call(Call::Receive { replica: 1, job: 20 }))?;
-    gives(b"H\t1\t20\n", Step::Call(Call::Hear { replica: 1, job: 20 }))?;
-    gives(b"N\t1\t20\n", Step::Call(Call::Notice { replica: 1, job: 20 }))?;
+    gives(
+        b"R\t1\t20\n",
+        Step::Call(Call::Receive {
+            replica: 1,
+            job: 20,
+        }),
+    )?;
+    gives(
+        b"H\t1\t20\n",
+        Step::Call(Call::Hear {
+            replica: 1,
+            job: 20,
+        }),
+    )?;
+    gives(
+        b"N\t1\t20\n",
+        Step::Call(Call::Notice {
+            replica: 1,
+            job: 20,
+        }),
+    )?;
     gives(b"Y\n", Step::Call(Call::Sync))?;
     gives(b"Q\t0\n", Step::Call(Call::Query { job: 0 }))
 }
@@ -52,12 +70,24 @@ fn each_letter() -> Result<(), Fail> {
 #[test]
 fn voters() -> Result<(), Fail> {
     let two = Voters::none().with(0).with(9);
-    gives(b"L\t4\t09\n", Step::Call(Call::Change { leader: 4, voters: two }))?;
+    gives(
+        b"L\t4\t09\n",
+        Step::Call(Call::Change {
+            leader: 4,
+            voters: two,
+        }),
+    )?;
     let mut all = Voters::none();
     for digit in 0..10u32 {
         all = all.with(digit);
     }
-    gives(b"L\t4\t0123456789\n", Step::Call(Call::Change { leader: 4, voters: all }))
+    gives(
+        b"L\t4\t0123456789\n",
+        Step::Call(Call::Change {
+            leader: 4,
+            voters: all,
+        }),
+    )
 }
 
 #[test]

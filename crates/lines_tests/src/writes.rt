@@ -65,18 +65,44 @@ fn each_letter() -> Result<(), Fail> {
     let voters = Voters::none().with(0).with(3).with(9);
     writes(start(5, 3), b"W\t5\t3\t0\n")?;
     writes(job(3, LARGEST), b"P\t1\t2\t3\t40\t999999\n")?;
-    writes(Step::Call(Call::Receive { replica: 1, job: 20 }), b"R\t1\t20\n")?;
-    writes(Step::Call(Call::Hear { replica: 1, job: 20 }), b"H\t1\t20\n")?;
-    writes(Step::Call(Call::Notice { replica: 1, job: 20 }), b"N\t1\t20\n")?;
+    writes(
+        Step::Call(Call::Receive {
+            replica: 1,
+            job: 20,
+        }),
+        b"R\t1\t20\n",
+    )?;
+    writes(
+        Step::Call(Call::Hear {
+            replica: 1,
+            job: 20,
+        }),
+        b"H\t1\t20\n",
+    )?;
+    writes(
+        Step::Call(Call::Notice {
+            replica: 1,
+            job: 20,
+        }),
+        b"N\t1\t20\n",
+    )?;
     writes(Step::Call(Call::Sync), b"Y\n")?;
-    writes(Step::Call(Call::Change { leader: 30, voters }), b"L\t30\t039\n")?;
+    writes(
+        Step::Call(Call::Change { leader: 30, voters }),
+        b"L\t30\t039\n",
+    )?;
     writes(Step::Call(Call::Query { job: 0 }), b"Q\t0\n")
 }
 
 #[test]
 fn room() -> Result<(), Fail> {
     refuses(start(5, 3), &mut [0; 39], Refusal::ShortBuffer, None)?;
-    refuses(start(LARGEST + 1, 3), &mut [0; 39], Refusal::ShortBuffer, None)?;
+    refuses(
+        start(LARGEST + 1, 3),
+        &mut [0; 39],
+        Refusal::ShortBuffer,
+        None,
+    )?;
     refuses(start(5, 3), &mut [], Refusal::ShortBuffer, None)
 }
 
@@ -87,8 +113,20 @@ fn first_bad_field() -> Result<(), Fail> {
     bad_field(start(5, LARGEST + 1), 3)?;
     bad_field(job(LARGEST + 1, LARGEST + 1), 4)?;
     bad_field(job(3, LARGEST + 1), 6)?;
-    bad_field(Step::Call(Call::Receive { replica: 1, job: LARGEST + 1 }), 3)?;
+    bad_field(
+        Step::Call(Call::Receive {
+            replica: 1,
+            job: LARGEST + 1,
+        }),
+        3,
+    )?;
     bad_field(Step::Call(Call::Query { job: u32::MAX }), 2)?;
-    bad_field(Step::Call(Call::Change { leader: LARGEST + 1, voters }), 2)?;
+    bad_field(
+        Step::Call(Call::Change {
+            leader: LARGEST + 1,
+            voters,
+        }),
+        2,
+    )?;
     bad_field(Step::Call(Call::Change { leader: 1, voters }), 3)
 }
