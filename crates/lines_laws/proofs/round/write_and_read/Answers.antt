@@ -4,18 +4,13 @@ use native.Mathlib.Nat.{sub-zero}
 use borrow.Author.Needs.{needs}
 use lib.ListN.{length}
 use Rattle.std.proofs.shelf.Results.{err-from-errBy}
-use Rattle.lines_laws.proofs.Written.{reads-back, one-step}
 use Rattle.lines_laws.proofs.Rounds.{echo-refused, accepted, within, echo-same}
-use Rattle.lines_laws.proofs.round.echo.Needs as need
+use Rattle.lines_laws.proofs.round.write_and_read.Needs as need
 
 pub returns-in-Break-n : need.returns-in-Break-n
 returns-in-Break-n c =
     let p = err-from-errBy (c .from-residual .result) (c .from-residual .ensures .1) in
-    record {
-      back = reads-back;
-      one = one-step;
-      same = λ t. rw (p .1, p .2) (echo-refused (c .args .step) (length (c .args .out .now)) (c .in-Break-n .field-0 .0) (c .in-Break-n .ensures tt .told));
-    }
+    λ t. rw (p .1, p .2) (echo-refused (c .args .step) (length (c .args .out .now)) (c .in-Break-n .field-0 .0) (c .in-Break-n .ensures tt .told))
 
 pub part-read-line-end : need.part-read-line-end
 part-read-line-end c =
@@ -28,8 +23,4 @@ pub returns : need.returns
 returns c =
     let w = c .in-Continue-n .ensures tt in
     let a = accepted (c .args .step) (c .args .out .now) (c .write-line .last .out) (c .in-Continue-n .n) (w .told) (w .buffer) in
-    record {
-      back = reads-back;
-      one = one-step;
-      same = λ t. c .read-line .ensures ∙ rw sub-zero (echo-same (c .args .step) (c .args .out .now) (c .write-line .last .out) (c .in-Continue-n .n) a t);
-    }
+    λ t. c .read-line .ensures ∙ rw sub-zero (echo-same (c .args .step) (c .args .out .now) (c .write-line .last .out) (c .in-Continue-n .n) a t)
