@@ -11,7 +11,7 @@ use crate::set::set;
 use base::Fault;
 
 // A field of a line: its bytes, and its place, 1 for the letter.
-#[derive(Clone, Copy, Debug)]
+#[derive(Clone, Copy)]
 pub(crate) enum Field<'a> {
     Letter(&'a [u8], u8),
     Number(&'a [u8], u8),

@@ -6,6 +6,7 @@ ghost use Rattle.lines.specs.Faults.{refused as refused-of};
 ghost use Rattle.lines.specs.Fields.{left};
 ghost use Rattle.lines.specs.Reading.{setting, proposal, pair, change, query, step-of, parse};
 use crate::body::body;
+use crate::fault::bad_field;
 use crate::fault::refused;
 use crate::field::*;
 use crate::number::value;
@@ -29,13 +30,13 @@ fn read_setting(rest: &mut Rest) -> Result<Step, Fault>
         return Err(rest.fault());
     };
     let leader = value(leader);
-    let Some(Field::Number(flag, _)) = rest.number() else {
+    let Some(Field::Number(flag, place)) = rest.number() else {
         return Err(rest.fault());
     };
     let fast = match value(flag) {
         0 => false,
         1 => true,
-        _ => return Err(rest.fault()),
+        _ => return Err(bad_field(place)),
     };
     Ok(Step::Start(Setting { size, leader, fast }))
 }
