@@ -1,5 +1,4 @@
 ghost use mathlib.Core.Path.{_≡_};
-ghost use Prim.Native.Nat.{_+_};
 ghost use Rattle.std.specs.Results.{Cases};
 ghost use Rattle.base.specs.declared.fault.Refusal.the-variants.{WrongFieldCount};
 ghost use Rattle.lines.specs.Faults.{refused as refused-of};

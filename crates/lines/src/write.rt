@@ -1,15 +1,11 @@
-ghost use mathlib.Core.Bool.{not};
 ghost use mathlib.Core.List.{[], _∷_, _++_, map};
 ghost use mathlib.Core.Path.{_≡_};
 ghost use Prim.Native.Nat.{_≤_};
 ghost use lib.ListN.{length};
-ghost use Rattle.std.specs.Results.{Cases};
 ghost use Rattle.std.specs.Written.{decimal};
-ghost use Rattle.std.specs.declared.option.Option.the-variants.{Some, None};
 ghost use Rattle.protocol.specs.declared.calls.Call.the-variants.{Change};
 ghost use Rattle.lines.specs.declared.step.Step.the-variants.{Call as Asks};
-ghost use Rattle.lines.specs.Limits.{longest};
-ghost use Rattle.lines.specs.Texts.{content, Made};
+ghost use Rattle.lines.specs.Texts.{Made};
 ghost use Rattle.lines.specs.Writing.{nobody as nobody-of, first-large, tabbed, line-of, unwritable, outcome, written};
 use crate::fault::bad_field;
 use crate::fault::refused;
@@ -18,10 +14,8 @@ use crate::limits::LONGEST;
 use crate::step::Step;
 use crate::text::Text;
 use base::Fault;
-use base::Record;
 use base::Refusal;
 use protocol::Call;
-use protocol::Setting;
 use protocol::Voters;
 
 // No voter is named.

@@ -3,28 +3,26 @@ use mathlib.Core.Path.{_≡_, refl, sym, ap, subst, _∙_}
 use mathlib.Core.Bool.{Bool, true, false, cond}
 use mathlib.Core.List.{List, [], _∷_, _++_}
 use mathlib.Core.Logic.{_⊎_, inl, inr, ⊎-elim}
-use Prim.Native.Nat.{ℕ, suc, _+_, _≤_, _<_}
+use Prim.Native.Nat.{ℕ, _+_, _≤_, _<_}
 use native.Mathlib.Omega.{arith}
 use lib.Dec.{eqb, leb, ltb}
-use lib.ListN.{length, getD}
+use lib.ListN.{length}
 use Rattle.std.specs.Written.{decimal}
 use Rattle.std.specs.declared.option.Option.{Option}
 use Rattle.std.specs.declared.option.Option.the-variants.{Some, None}
 use Rattle.std.specs.declared.result.Result.{Result}
 use Rattle.std.specs.declared.result.Result.the-variants.{Ok, Err}
-use Rattle.std.proofs.shelf.Tests.{and-parts, cond-true, cond-false, ne-eqb, eqb-true, le-ltb}
+use Rattle.std.proofs.shelf.Tests.{and-parts, cond-false, ne-eqb, eqb-true, le-ltb}
 use Rattle.base.specs.declared.fault.Fault.{Fault}
 use Rattle.base.specs.declared.fault.Refusal.the-variants.{BadLine, UnknownLetter, WrongFieldCount}
-use Rattle.protocol.specs.declared.voters.Voters.{Voters}
-use Rattle.protocol.specs.declared.calls.Call.{Call}
-use Rattle.protocol.specs.declared.calls.Call.the-variants.{Propose, Receive, Hear, Sync, Notice, Change, Query}
+use Rattle.protocol.specs.declared.calls.Call.the-variants.{Receive, Hear, Sync, Notice}
 use Rattle.lines.specs.declared.step.Step.{Step}
-use Rattle.lines.specs.declared.step.Step.the-variants.{Start, Call as Asks}
+use Rattle.lines.specs.declared.step.Step.the-variants.{Call as Asks}
 use Rattle.lines.specs.Faults.{refused}
 use Rattle.lines.specs.Forms.{number, set, front, back, tabs, ended, body, fits}
 use Rattle.lines.specs.Limits.{longest, largest}
 use Rattle.lines.specs.Letters.{setting-letter, propose-letter, receive-letter, hear-letter, notice-letter, sync-letter, change-letter, query-letter}
-use Rattle.lines.specs.Reading.{step-of, letter, parse, with-field, from-pair, counted, setting, proposal, pair, change, query, flag}
+use Rattle.lines.specs.Reading.{step-of, letter, with-field, from-pair, counted, setting, proposal, pair, change, query, flag}
 use Rattle.lines.specs.Writing.{set-of, nobody, bit, tabbed, line-of, first-large, unwritable}
 use Rattle.lines_laws.specs.Laws.{Sound, Gives, Writes-back}
 use Rattle.lines_laws.proofs.Numbers.{number-only, none-some}

@@ -19,7 +19,7 @@ use Rattle.lines.specs.Faults.{refused, bad-field}
 use Rattle.lines.specs.Limits.{longest}
 use Rattle.lines.specs.Reading.{parse}
 use Rattle.lines.specs.Writing.{line-of, unwritable, if-writable, outcome, filled, written}
-use Rattle.lines_laws.specs.Laws.{Sound, Gives}
+use Rattle.lines_laws.specs.Laws.{Sound}
 use Rattle.lines_laws.specs.Rounds.{echoed, copied, copied-buffer}
 use Rattle.lines_laws.proofs.Rebuilt.{err-ok, ok-same, writes-back}
 use Rattle.lines_laws.proofs.Written.{reads-back}

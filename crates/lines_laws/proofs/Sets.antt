@@ -5,7 +5,7 @@ use mathlib.Core.List.{List, [], _∷_, _++_, append-assoc}
 use mathlib.Core.Logic.{_⊎_, inl, inr, ⊎-elim}
 use Prim.Native.Nat.{ℕ, zero, suc, _+_, _-_, _≤_, _<_}
 use native.Mathlib.Omega.{arith}
-use lib.Dec.{eqb, leb, ltb}
+use lib.Dec.{eqb, ltb}
 use lib.ListN.{length, getD, take, replicate, length-set}
 use lib.ListN as lists
 use Rattle.std.specs.shelf.Text.{allDigits}
@@ -18,7 +18,7 @@ use Rattle.protocol.specs.declared.voters.Voters.{Voters}
 use Rattle.protocol.specs.Votes.{votes, no-voters, with-voter}
 use Rattle.lines.specs.Forms.{digit, rises, set, set-after}
 use Rattle.lines.specs.Writing.{members, set-of}
-use Rattle.lines.proofs.Writes.{members-on, members-past, members-end}
+use Rattle.lines.proofs.Writes.{members-on, members-past}
 use Rattle.lines_laws.proofs.Numbers.{none-some, cond-some}
 
 -- digits of a set

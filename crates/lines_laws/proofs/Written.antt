@@ -2,31 +2,26 @@
 use mathlib.Core.Path.{_≡_, refl, sym, ap, _∙_}
 use mathlib.Core.Bool.{Bool, true, false, cond, _&&_}
 use mathlib.Core.List.{List, [], _∷_, _++_}
-use mathlib.Core.Logic.{⊎-elim}
-use Prim.Native.Nat.{ℕ, suc, _+_, _≤_, _<_}
+use Prim.Native.Nat.{ℕ, _+_, _≤_, _<_}
 use native.Mathlib.Omega.{arith}
-use lib.Dec.{eqb, leb, ltb}
+use lib.Dec.{eqb, ltb}
 use lib.ListN.{length}
 use Rattle.std.specs.Written.{decimal}
-use Rattle.std.specs.shelf.Text.{allDigits}
 use Rattle.std.specs.declared.option.Option.{Option}
 use Rattle.std.specs.declared.option.Option.the-variants.{Some, None}
 use Rattle.std.specs.declared.result.Result.the-variants.{Ok}
 use Rattle.std.proofs.shelf.Lists.{length-append}
 use Rattle.std.proofs.shelf.Tests.{and-from, cond-true, cond-false, ne-eqb, le-leb, ltb-false, eqb-false}
 use Rattle.std.proofs.shelf.Ways.{tells}
-use Rattle.base.specs.declared.«record».Record.{Record}
-use Rattle.protocol.specs.declared.setting.Setting.{Setting}
 use Rattle.protocol.specs.declared.voters.Voters.{Voters}
 use Rattle.protocol.specs.declared.calls.Call.the-variants.{Propose, Receive, Hear, Sync, Notice, Change, Query}
-use Rattle.lines.specs.declared.step.Step.{Step}
 use Rattle.lines.specs.declared.step.Step.the-variants.{Start, Call as Asks}
 use Rattle.lines.specs.Forms.{number, set, front, back, tabs, ended, body, fits, allowed}
 use Rattle.lines.specs.Limits.{longest, largest}
 use Rattle.lines.specs.Letters.{setting-letter, propose-letter, receive-letter, hear-letter, notice-letter, sync-letter, change-letter, query-letter}
 use Rattle.lines.specs.Reading.{step-of, letter, parse, setting, proposal, pair, change, query, flag}
-use Rattle.lines.specs.Writing.{members, set-of, nobody, bit, tabbed, line-of, first-large, unwritable}
-use Rattle.lines_laws.specs.Laws.{Writable, Reads-back, One-step}
+use Rattle.lines.specs.Writing.{set-of, nobody, bit, tabbed, line-of, first-large}
+use Rattle.lines_laws.specs.Laws.{Reads-back, One-step}
 use Rattle.lines_laws.proofs.Numbers.{plain, short, number-back, none-some}
 use Rattle.lines_laws.proofs.Sets.{set-plain, set-back}
 use Rattle.lines_laws.proofs.Parts.{after, Plain, width, first, next, body-all, ended-all, tabs-all, width-all, front-all, back-all}

@@ -1,6 +1,5 @@
 use mathlib.Core.Path.{_≡_, refl, ap, _∙_}
 use mathlib.Core.List.{_∷_, [], _++_, append-assoc}
-use Prim.Native.Nat.{ℕ}
 use native.Mathlib.Omega.{arith}
 use Rattle.lines.specs.Texts.{content}
 use Rattle.lines.specs.Writing.{set-of}
