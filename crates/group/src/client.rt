@@ -84,7 +84,7 @@ fn confirm(answers: [Answer; 9], size: usize, reply: Reply, other: Phase) -> Pha
 }
 
 // The phase after what was heard; a settled one stays.
-pub fn decision(answers: [Answer; 9], size: usize, now: Phase) -> Phase
+pub(crate) fn decision(answers: [Answer; 9], size: usize, now: Phase) -> Phase
     requires { ⌜ size ≤ 9 ⌝ }
     ensures { λ p. ⌜ p ≡ decide size (λ b. getD answers b Empty) now ⌝ }
 {

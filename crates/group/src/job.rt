@@ -14,7 +14,7 @@ use protocol::Reply;
 
 // One job: its record, every box's answer, where its client stands, and the result that the log gave.
 #[derive(Clone, Copy)]
-pub struct Job {
+pub(crate) struct Job {
     pub record: Record,
     pub answers: [Answer; 9],
     pub phase: Phase,
@@ -22,7 +22,7 @@ pub struct Job {
 }
 
 impl Job {
-    pub fn new(record: Record) -> Job
+    pub(crate) fn new(record: Record) -> Job
         ensures { λ q. ⌜ Holds q «record» (λ _. Empty) Waiting None ⌝ }
     {
         Job {
@@ -34,7 +34,7 @@ impl Job {
     }
 
     // The box's reply, where it is on its way to the client.
-    pub fn in_transit(self, replica: usize) -> Option<Reply>
+    pub(crate) fn in_transit(self, replica: usize) -> Option<Reply>
         requires { ⌜ replica < 9 ⌝ }
         ensures { λ r. ⌜ r ≡ transit-of (answer-of self replica) ⌝ }
     {
@@ -45,7 +45,7 @@ impl Job {
     }
 
     // The box's reply is on its way to the client.
-    pub fn answered(self, replica: usize, reply: Reply) -> Job
+    pub(crate) fn answered(self, replica: usize, reply: Reply) -> Job
         requires { ⌜ replica < 9 ⌝ }
         ensures { λ q. ⌜ Holds q (self .«record») (put (answer-of self) replica (Transit reply)) (self .phase) (self .given) ⌝ }
     {
@@ -60,7 +60,7 @@ impl Job {
     }
 
     // The client has heard the reply, and decides.
-    pub fn heard(self, replica: usize, reply: Reply, size: usize) -> Job
+    pub(crate) fn heard(self, replica: usize, reply: Reply, size: usize) -> Job
         requires within { ⌜ replica < 9 ⌝ }
         requires few { ⌜ size ≤ 9 ⌝ }
         ensures { λ q. ⌜ Holds q (self .«record») (put (answer-of self) replica (Heard reply)) (decide size (answer-of q) (self .phase)) (self .given) ⌝ }
@@ -76,7 +76,7 @@ impl Job {
     }
 
     // The log gave the result.
-    pub fn logged(self, result: u32) -> Job
+    pub(crate) fn logged(self, result: u32) -> Job
         ensures { λ q. ⌜ Holds q (self .«record») (answer-of self) (self .phase) (Some result) ⌝ }
     {
         let answers = self.answers;

@@ -6,12 +6,12 @@ ghost use Rattle.protocol.specs.Tests.{put, tally};
 
 // A set of jobs, by their numbers below 256.
 #[derive(Clone, Copy)]
-pub struct JobSet {
+pub(crate) struct JobSet {
     members: [bool; 256],
 }
 
 impl JobSet {
-    pub fn none() -> JobSet
+    pub(crate) fn none() -> JobSet
         ensures { λ s. ⌜ ((c : ℕ) → has s c ≡ false) ⌝ }
     {
         JobSet {
@@ -19,14 +19,14 @@ impl JobSet {
         }
     }
 
-    pub fn has(&self, job: usize) -> bool
+    pub(crate) fn has(&self, job: usize) -> bool
         ensures { λ b. ⌜ b ≡ has (now (self .entry)) job ⌝ }
     {
         if job < 256 { self.members[job] } else { false }
     }
 
     // The set with the job in it, or without.
-    pub fn put(self, job: usize, member: bool) -> JobSet
+    pub(crate) fn put(self, job: usize, member: bool) -> JobSet
         requires { ⌜ job < 256 ⌝ }
         ensures { λ s. ⌜ ((c : ℕ) → has s c ≡ put (has self) job member c) ⌝ }
     {
@@ -36,7 +36,7 @@ impl JobSet {
     }
 
     // How many of the jobs below `count` are in it.
-    pub fn size(&self, count: usize) -> u32
+    pub(crate) fn size(&self, count: usize) -> u32
         requires { ⌜ count ≤ 256 ⌝ }
         ensures { λ n. ⌜ n ≡ tally count (has (now (self .entry))) ⌝ }
     {

@@ -5,7 +5,7 @@ ghost use Rattle.group.specs.View.{All-became};
 use crate::replica::Replica;
 
 // A request for the job goes to every box.
-pub fn request_all(boxes: &mut [Replica], job: usize)
+pub(crate) fn request_all(boxes: &mut [Replica], job: usize)
     requires { ⌜ job < 256 ⌝ }
     ensures { λ _. ⌜ All-became (Requested job) (now (boxes .entry)) (now (boxes .exit)) ⌝ }
 {
@@ -16,7 +16,7 @@ pub fn request_all(boxes: &mut [Replica], job: usize)
 }
 
 // A notice of the job goes to every box.
-pub fn notify_all(boxes: &mut [Replica], job: usize)
+pub(crate) fn notify_all(boxes: &mut [Replica], job: usize)
     requires { ⌜ job < 256 ⌝ }
     ensures { λ _. ⌜ All-became (Notified job) (now (boxes .entry)) (now (boxes .exit)) ⌝ }
 {

@@ -6,7 +6,7 @@ use crate::job_set::JobSet;
 
 // One box: the requests and notices in transit to it, the notices it has taken, its pool.
 #[derive(Clone, Copy)]
-pub struct Replica {
+pub(crate) struct Replica {
     pub requests: JobSet,
     pub notices: JobSet,
     pub taken: JobSet,
@@ -15,7 +15,7 @@ pub struct Replica {
 
 // Each gives the box as it is after one message.
 impl Replica {
-    pub fn empty() -> Replica
+    pub(crate) fn empty() -> Replica
         ensures { λ q. ⌜ Has q (λ _. false) (λ _. false) (λ _. false) (λ _. false) ⌝ }
     {
         let none = JobSet::none();
@@ -28,7 +28,7 @@ impl Replica {
     }
 
     // A request for the job is on its way.
-    pub fn requested(self, job: usize) -> Replica
+    pub(crate) fn requested(self, job: usize) -> Replica
         requires { ⌜ job < 256 ⌝ }
         ensures { λ q. ⌜ Requested job self q ⌝ }
     {
@@ -41,7 +41,7 @@ impl Replica {
     }
 
     // The request was taken, and nothing else.
-    pub fn dropped(self, job: usize) -> Replica
+    pub(crate) fn dropped(self, job: usize) -> Replica
         requires { ⌜ job < 256 ⌝ }
         ensures { λ q. ⌜ Has q (put (has (self .requests)) job false) (has (self .notices)) (has (self .taken)) (has (self .pool)) ⌝ }
     {
@@ -54,7 +54,7 @@ impl Replica {
     }
 
     // The request was taken; the job joined the pool or not.
-    pub fn answered(self, job: usize, joins: bool) -> Replica
+    pub(crate) fn answered(self, job: usize, joins: bool) -> Replica
         requires { ⌜ job < 256 ⌝ }
         ensures { λ q. ⌜ Has q (put (has (self .requests)) job false) (has (self .notices)) (has (self .taken)) (put (has (self .pool)) job (joins || has (self .pool) job)) ⌝ }
     {
@@ -67,7 +67,7 @@ impl Replica {
     }
 
     // A notice of the job is on its way.
-    pub fn notified(self, job: usize) -> Replica
+    pub(crate) fn notified(self, job: usize) -> Replica
         requires { ⌜ job < 256 ⌝ }
         ensures { λ q. ⌜ Notified job self q ⌝ }
     {
@@ -80,7 +80,7 @@ impl Replica {
     }
 
     // The notice was taken, and the job left the pool.
-    pub fn noted(self, job: usize) -> Replica
+    pub(crate) fn noted(self, job: usize) -> Replica
         requires { ⌜ job < 256 ⌝ }
         ensures { λ q. ⌜ Has q (has (self .requests)) (put (has (self .notices)) job false) (put (has (self .taken)) job true) (put (has (self .pool)) job false) ⌝ }
     {
@@ -92,7 +92,7 @@ impl Replica {
         }
     }
 
-    pub fn with_pool(self, pool: JobSet) -> Replica
+    pub(crate) fn with_pool(self, pool: JobSet) -> Replica
         ensures { λ q. ⌜ Has q (has (self .requests)) (has (self .notices)) (has (self .taken)) (has pool) ⌝ }
     {
         Replica {

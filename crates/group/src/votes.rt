@@ -18,7 +18,7 @@ fn votes_for(voters: Voters, r: usize, at: Replica, job: usize) -> bool
 }
 
 // How many of the voters' pools hold the job.
-pub fn holders(boxes: &[Replica], voters: Voters, job: usize) -> u32
+pub(crate) fn holders(boxes: &[Replica], voters: Voters, job: usize) -> u32
     requires { ⌜ length (now boxes) ≤ 9 ⌝ }
     ensures { λ n. ⌜ n ≡ tally (length (now (boxes .entry))) (λ r. votes voters r && has (box-at (now (boxes .entry)) r .pool) job) ⌝ }
 {

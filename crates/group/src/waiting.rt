@@ -12,7 +12,7 @@ use std::alloc::Global;
 
 // The waiting jobs from the head on, none twice, with room for every job that there can be.
 #[derive(Drop)]
-pub struct WaitingList {
+pub(crate) struct WaitingList {
     jobs: Vec<u16>,
     ghost once: { distinct (vec-items jobs) ≡ true },
     ghost small: { all-below 256 (vec-items jobs) ≡ true },
@@ -20,27 +20,27 @@ pub struct WaitingList {
 }
 
 impl WaitingList {
-    pub fn new(heap: Global) -> Result<WaitingList, AllocError>
+    pub(crate) fn new(heap: Global) -> Result<WaitingList, AllocError>
         ensures { λ r. ⌜ made r (λ w. vec-items (w .jobs) ≡ []) ⌝ }
     {
         let jobs = Vec::with_capacity(heap, 256)?;
         Ok(WaitingList { jobs })
     }
 
-    pub fn as_slice(&self) -> &[u16]
+    pub(crate) fn as_slice(&self) -> &[u16]
         ensures { λ r. ⌜ now r ≡ vec-items (now (self .entry) .jobs) ⌝ }
     {
         self.jobs.as_slice()
     }
 
-    pub fn has(&self, job: usize) -> bool
+    pub(crate) fn has(&self, job: usize) -> bool
         ensures { λ b. ⌜ b ≡ mem job (vec-items (now (self .entry) .jobs)) ⌝ }
     {
         contains(self.jobs.as_slice(), job)
     }
 
     // A job that the leader receives joins the end, unless it waits already.
-    pub fn join(&mut self, job: u16, leads: bool)
+    pub(crate) fn join(&mut self, job: u16, leads: bool)
         requires { ⌜ job < 256 ⌝ }
         ensures { λ _. ⌜ vec-items (now (self .exit) .jobs) ≡ vec-items (now (self .entry) .jobs) ++ cond (leads && not (mem job (vec-items (now (self .entry) .jobs)))) (job ∷ []) [] ⌝ }
     {
@@ -52,14 +52,14 @@ impl WaitingList {
         }
     }
 
-    pub fn head(&self) -> Option<u16>
+    pub(crate) fn head(&self) -> Option<u16>
         ensures { λ r. ⌜ r ≡ first-of (vec-items (now (self .entry) .jobs)) ⌝ }
     {
         self.jobs.first().copied()
     }
 
     // The head leaves.
-    pub fn advance(&mut self)
+    pub(crate) fn advance(&mut self)
         ensures { λ _. ⌜ vec-items (now (self .exit) .jobs) ≡ rest-of (vec-items (now (self .entry) .jobs)) ⌝ }
     {
         if self.jobs.len() > 0 {
@@ -68,7 +68,7 @@ impl WaitingList {
     }
 
     // The jobs of the set below `count`, in ascending number, in place of those that waited.
-    pub fn refill(&mut self, set: &JobSet, count: u16)
+    pub(crate) fn refill(&mut self, set: &JobSet, count: u16)
         requires { ⌜ count ≤ 256 ⌝ }
         ensures { λ _. ⌜ vec-items (now (self .exit) .jobs) ≡ ascending count (has (now (set .entry))) ⌝ }
     {

@@ -3,7 +3,7 @@ use protocol::Phase;
 use protocol::Received;
 use std::error::AnyError;
 
-pub fn received_word(received: Received) -> &'static str {
+pub(crate) fn received_word(received: Received) -> &'static str {
     match received {
         Received::Yes => "yes",
         Received::No => "no",
@@ -11,7 +11,7 @@ pub fn received_word(received: Received) -> &'static str {
     }
 }
 
-pub fn phase_word(phase: Phase) -> &'static str {
+pub(crate) fn phase_word(phase: Phase) -> &'static str {
     match phase {
         Phase::Waiting => "waiting",
         Phase::Slow => "slow",
@@ -19,7 +19,7 @@ pub fn phase_word(phase: Phase) -> &'static str {
     }
 }
 
-pub fn refused(rt: &impl Print, fault: Fault) -> Result<(), AnyError> {
+pub(crate) fn refused(rt: &impl Print, fault: Fault) -> Result<(), AnyError> {
     let number = fault.number.number();
     let layer = fault.layer.name();
     println!(rt, "refused by the {layer}, number {number}")?;
