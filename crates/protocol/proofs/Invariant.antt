@@ -1,7 +1,7 @@
 -- What holds of every state: the invariant that the calls keep.
 use mathlib.Core.Path.{_≡_, refl}
 use mathlib.Core.Logic.{_⊎_, _≢_}
-use mathlib.Core.Bool.{true, false}
+use mathlib.Core.Bool.{Bool, true, false}
 use mathlib.Core.List.{_++_}
 use Prim.Native.Nat.{ℕ, _≤_, _<_, zero-le}
 use native.Mathlib.Omega.{arith}
@@ -100,3 +100,22 @@ pub record Onward {S : Type 0} (m : Meaning S) (s s′ : State S) : Type 0 where
   -- no job enters the log before one that is firm and meets it
   pub in-turn : (c d t : ℕ) → Firm m s c t → mem c (s′ .lead .log) ≡ false → mem d (s′ .lead .log) ≡ true →
       d ≢ c → meets m (s′ .jobs .job) c d ≡ true → mem d (s .lead .log) ≡ true
+
+-- A call that moves messages and pools only keeps all of it.
+pub on-boxes : {S : Type 0} (m : Meaning S) (s : State S) (request notice taken pool : ℕ → ℕ → Bool) →
+    Onward m s (record {
+      fixed = s .fixed;
+      lead = s .lead;
+      jobs = s .jobs;
+      boxes = record { request = request; notice = notice; taken = taken; pool = pool; answer = s .boxes .answer };
+    })
+on-boxes m s request notice taken pool = record {
+  epoch-up = omega arith;
+  count-up = omega arith;
+  job-on = λ c h. refl;
+  log-on = λ c h. h;
+  told-on = λ r c e t h. h;
+  fast-on = λ c t e h. h;
+  live-back = λ e c past l. l;
+  in-turn = λ c d t f out h other meet. h;
+}

@@ -7,7 +7,7 @@ use Rattle.std.proofs.shelf.Ways.{tells}
 use Rattle.base.specs.Meaning.{Meaning}
 use Rattle.protocol.specs.State.{State}
 use Rattle.protocol.specs.Steps.{note}
-use Rattle.protocol.proofs.Invariant.{Inv, Onward}
+use Rattle.protocol.proofs.Invariant.{Inv, Onward, on-boxes}
 
 module _ {S : Type 0} (m : Meaning S) where
   pub inv-note : (r₀ c₀ : ℕ) (s : State S) → Inv m s → s .boxes .notice r₀ c₀ ≡ true → Inv m (note r₀ c₀ s)
@@ -27,13 +27,4 @@ module _ {S : Type 0} (m : Meaning S) where
   }
 
   pub on-note : (r₀ c₀ : ℕ) (s : State S) → Onward m s (note r₀ c₀ s)
-  on-note r₀ c₀ s = record {
-    epoch-up = omega arith;
-    count-up = omega arith;
-    job-on = λ c h. refl;
-    log-on = λ c h. h;
-    told-on = λ r c e t h. h;
-    fast-on = λ c t e h. h;
-    live-back = λ e c past l. l;
-    in-turn = λ c d t f out h other meet. h;
-  }
+  on-note r₀ c₀ s = on-boxes m s _ _ _ _

@@ -16,7 +16,7 @@ use Rattle.protocol.specs.State.{State, meets}
 use Rattle.protocol.proofs.Said.{said}
 use Rattle.protocol.specs.Answers.{agrees}
 use Rattle.protocol.specs.Steps.{pools, reply, joins, drops, dropped, take}
-use Rattle.protocol.proofs.Invariant.{Live, Firm, Inv, Onward}
+use Rattle.protocol.proofs.Invariant.{Live, Firm, Inv, Onward, on-boxes}
 use Rattle.protocol.proofs.Counting.{tally-le}
 use Rattle.protocol.proofs.Lists.{any-append, none-below, none-of, distinct-join, clear-append, clear-last}
 
@@ -39,16 +39,7 @@ module _ {S : Type 0} (m : Meaning S) where
   }
 
   pub on-drop : (r₀ c₀ : ℕ) (s : State S) → Onward m s (dropped r₀ c₀ s)
-  on-drop r₀ c₀ s = record {
-    epoch-up = omega arith;
-    count-up = omega arith;
-    job-on = λ c h. refl;
-    log-on = λ c h. h;
-    told-on = λ r c e t h. h;
-    fast-on = λ c t e h. h;
-    live-back = λ e c past l. l;
-    in-turn = λ c d t f out h other meet. h;
-  }
+  on-drop r₀ c₀ s = on-boxes m s _ _ _ _
 
   -- what the reply says
   reply-epoch : (s : State S) (r c e : ℕ) → agrees e (reply m s r c) ≡ true → (e ≡ s .lead .epoch) × (pools m s r c ≡ true)

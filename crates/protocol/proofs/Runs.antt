@@ -27,7 +27,7 @@ use Rattle.protocol.specs.declared.calls.Call.the-variants.{Query, Propose, Re
 use Rattle.protocol.proofs.Said.{said}
 use Rattle.protocol.specs.Steps.{drops, propose, sync}
 use Rattle.protocol.specs.Histories.{refusal, moved, step, run, history}
-use Rattle.protocol.proofs.Invariant.{Live, Inv, inv-new, answered, told-agrees, Onward}
+use Rattle.protocol.proofs.Invariant.{Live, Inv, inv-new, answered, told-agrees, Onward, on-boxes}
 use Rattle.protocol.proofs.Counting.{tally-same-bound}
 use Rattle.protocol.proofs.Lists.{any-append, none-below}
 use Rattle.protocol.proofs.Propose.{inv-propose, on-propose}
@@ -60,19 +60,7 @@ meets-same m job job′ c d ec ed h = cc
 
 module _ {S : Type 0} (m : Meaning S) (laws : Laws m) where
   stays : (s : State S) → Inv m s → Keeps m s s
-  stays s i = (
-    i,
-    record {
-      epoch-up = omega arith;
-      count-up = omega arith;
-      job-on = λ c h. refl;
-      log-on = λ c h. h;
-      told-on = λ r c e t h. h;
-      fast-on = λ c t e h. h;
-      live-back = λ e c past l. l;
-      in-turn = λ c d t f out h other meet. h;
-    },
-  )
+  stays s i = (i, on-boxes m s _ _ _ _)
 
   keeps-receive : (r c : ℕ) (s : State S) → Inv m s → c < s .jobs .count → s .boxes .request r c ≡ true → (b : Bool) → drops s r c ≡ b → Keeps m s (moved m (Receive r c) s)
   keeps-receive r c s i job asks true e = rw e (inv-drop m r c s i, on-drop m r c s)
