@@ -25,7 +25,7 @@ use Rattle.group.specs.declared.job_set.JobSet.{JobSet}
 use Rattle.group.specs.declared.job.Job.{Job}
 use Rattle.group.specs.declared.replica.Replica.{Replica}
 use Rattle.group.specs.Sets.{has, Has}
-use Rattle.group.specs.View.{seen, no-box, box-at}
+use Rattle.group.specs.View.{Parts, seen, no-box, box-at}
 use Rattle.group.proofs.Places.{kept-at, read-set}
 
 -- one job more looked at
@@ -45,42 +45,42 @@ length-ascending (suc n) p =
     let both = length-append (ascending n p) (cond (p n) (n ∷ []) []) in
     grind arith
 
-module _ {S : Type 0} (fast : Bool) (capacity leader epoch : ℕ) (waiting log : List ℕ) (book : S) (jobs : List Job) (boxes : List Replica)
+module _ {S : Type 0} (g : Parts S)
     (l : ℕ) (voters : Voters) where
   abbrev before : State S
-  before = seen fast capacity leader epoch waiting log book jobs boxes
+  before = seen g
 
-  pub seats : change-refusal l voters before ≡ None → (l < length boxes) × (epoch < last-epoch)
+  pub seats : change-refusal l voters before ≡ None → (l < length (g .boxes)) × (g .epoch < last-epoch)
   seats free = (grind (arith, tells), grind (arith, tells))
 
-  module _ (within : l < length boxes) (set-kept : JobSet) (p : Replica) (same : (c : ℕ) → has set-kept c ≡ recovered before voters c)
-      (new : Has p (has (box-at boxes l .requests)) (has (box-at boxes l .notices)) (has (box-at boxes l .taken)) (has set-kept)) where
+  module _ (within : l < length (g .boxes)) (set-kept : JobSet) (p : Replica) (same : (c : ℕ) → has set-kept c ≡ recovered before voters c)
+      (new : Has p (has (box-at (g .boxes) l .requests)) (has (box-at (g .boxes) l .notices)) (has (box-at (g .boxes) l .taken)) (has set-kept)) where
     keeps : has set-kept ≡ recovered before voters
     keeps = λ i c. same c i
 
-    pool-new : (r c : ℕ) → has (box-at (set boxes l p) r .pool) c ≡ cond (eqb r l) (recovered before voters c) (has (box-at boxes r .pool) c)
+    pool-new : (r c : ℕ) → has (box-at (set (g .boxes) l p) r .pool) c ≡ cond (eqb r l) (recovered before voters c) (has (box-at (g .boxes) r .pool) c)
     pool-new r c =
-        let e = ap (λ (b : Replica). has (b .pool) c) (read-set boxes l p no-box within r) in
+        let e = ap (λ (b : Replica). has (b .pool) c) (read-set (g .boxes) l p no-box within r) in
         let n = new .pool c in
         let k = same c in
         grind (arith, tells)
 
-    pub change-moves : seen fast capacity l (epoch + 1) (ascending (length jobs) (has set-kept)) log book jobs (set boxes l p) ≡ change l voters before
+    pub change-moves : seen (record { fast = g .fast; capacity = g .capacity; leader = l; epoch = g .epoch + 1; waiting = ascending (length (g .jobs)) (has set-kept); log = g .log; book = g .book; jobs = g .jobs; boxes = set (g .boxes) l p }) ≡ change l voters before
     change-moves =
         same-state
-        (ap (λ (n : ℕ). record { size = n; fast = fast; capacity = capacity }) (length-set boxes l p))
-        (λ i. record { leader = l; epoch = add-one epoch i; waiting = ascending (length jobs) (keeps i); log = log; book = book })
+        (ap (λ (n : ℕ). record { size = n; fast = g .fast; capacity = g .capacity }) (length-set (g .boxes) l p))
+        (λ i. record { leader = l; epoch = add-one (g .epoch) i; waiting = ascending (length (g .jobs)) (keeps i); log = g .log; book = g .book })
         refl
         (same-boxes (record {
-          request = kept-at boxes l p no-box within (λ b. has (b .requests)) (new .requests);
-          notice = kept-at boxes l p no-box within (λ b. has (b .notices)) (new .notices);
-          taken = kept-at boxes l p no-box within (λ b. has (b .taken)) (new .taken);
+          request = kept-at (g .boxes) l p no-box within (λ b. has (b .requests)) (new .requests);
+          notice = kept-at (g .boxes) l p no-box within (λ b. has (b .notices)) (new .notices);
+          taken = kept-at (g .boxes) l p no-box within (λ b. has (b .taken)) (new .taken);
           pool = pool-new;
           answer = λ r c. refl;
         }))
 
-    pub change-told : (n : ℕ) → n ≡ tally (length jobs) (has set-kept) → _≡_ {A = Changed} (record { epoch = epoch + 1; recovered = n }) (changed voters before)
+    pub change-told : (n : ℕ) → n ≡ tally (length (g .jobs)) (has set-kept) → _≡_ {A = Changed} (record { epoch = g .epoch + 1; recovered = n }) (changed voters before)
     change-told n e =
         let many : n ≡ length (recovered-jobs before voters) =
-        e ∙ ap (tally (length jobs)) keeps ∙ sym (length-ascending (length jobs) (recovered before voters)) in
-        λ i. record { epoch = add-one epoch i; recovered = many i }
+        e ∙ ap (tally (length (g .jobs))) keeps ∙ sym (length-ascending (length (g .jobs)) (recovered before voters)) in
+        λ i. record { epoch = add-one (g .epoch) i; recovered = many i }

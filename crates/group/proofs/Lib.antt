@@ -1,6 +1,7 @@
 pub mod Queues
 pub mod Places
 pub mod Accepted
+pub mod Held
 pub mod Sending
 pub mod Noting
 pub mod Hearing

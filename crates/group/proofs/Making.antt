@@ -38,7 +38,7 @@ module _ (boxes : List Replica) (each : (r : ℕ) → r < length boxes → Empty
       go (inr h) = ap (λ b. f b c) (read-none boxes r no-box h) ∙ outside c
 
   pub new-made : {S : Type 0} (m : Meaning S) (limit : ℕ) (k : Setting) → length boxes ≡ k .size →
-      seen (k .fast) limit (k .leader) 1 [] [] (m .initial) [] boxes ≡ new-group m limit k
+      seen (record { fast = k .fast; capacity = limit; leader = k .leader; epoch = 1; waiting = []; log = []; book = m .initial; jobs = []; boxes = boxes }) ≡ new-group m limit k
   new-made m limit k many =
       same-state (ap (λ (n : ℕ). record { size = n; fast = k .fast; capacity = limit }) many) refl
       (same-jobs (record { count = refl; job = λ c. refl; phase = λ c. refl; given = λ c. refl }))

@@ -22,51 +22,52 @@ use Rattle.protocol.proofs.Same.{same-state, same-boxes}
 use Rattle.group.specs.declared.job.Job.{Job}
 use Rattle.group.specs.declared.replica.Replica.{Replica}
 use Rattle.group.specs.Sets.{has, Has}
-use Rattle.group.specs.View.{seen, no-box, box-at}
+use Rattle.group.specs.View.{Parts, seen, no-box, box-at}
+use Rattle.group.proofs.Held.{held}
 use Rattle.group.proofs.Places.{kept-at, changed-at}
 
-module _ {S : Type 0} (fast : Bool) (capacity leader epoch : ℕ) (waiting log : List ℕ) (book : S) (jobs : List Job) (boxes : List Replica) where
+module _ {S : Type 0} (g : Parts S) where
   abbrev before : State S
-  before = seen fast capacity leader epoch waiting log book jobs boxes
+  before = seen g
 
   abbrev after : List Replica → State S
-  after boxes′ = seen fast capacity leader epoch waiting log book jobs boxes′
+  after boxes′ = seen (held g (g .waiting) (g .jobs) boxes′)
 
-  same-size : (r : ℕ) (q : Replica) → after (set boxes r q) .fixed ≡ before .fixed
-  same-size r q = ap (λ (n : ℕ). record { size = n; fast = fast; capacity = capacity }) (length-set boxes r q)
+  same-size : (r : ℕ) (q : Replica) → after (set (g .boxes) r q) .fixed ≡ before .fixed
+  same-size r q = ap (λ (n : ℕ). record { size = n; fast = g .fast; capacity = g .capacity }) (length-set (g .boxes) r q)
 
   -- a message that is in transit to a box of the group is not refused
-  pub under-way : (r c : ℕ) (b : Bool) → r < length boxes → c < length jobs → b ≡ true → message-refusal r c b before ≡ None
+  pub under-way : (r c : ℕ) (b : Bool) → r < length (g .boxes) → c < length (g .jobs) → b ≡ true → message-refusal r c b before ≡ None
   under-way r c b hr hc sent = grind (arith, tells)
 
-  pub not-under-way : (r c : ℕ) (b : Bool) → r < length boxes → c < length jobs → b ≡ false → message-refusal r c b before ≡ Some (plain NotInTransit Group)
+  pub not-under-way : (r c : ℕ) (b : Bool) → r < length (g .boxes) → c < length (g .jobs) → b ≡ false → message-refusal r c b before ≡ Some (plain NotInTransit Group)
   not-under-way r c b hr hc none = grind (arith, tells)
 
-  pub note-moves : (r c : ℕ) (q : Replica) → r < length boxes →
-      Has q (has (box-at boxes r .requests)) (put (has (box-at boxes r .notices)) c false) (put (has (box-at boxes r .taken)) c true) (put (has (box-at boxes r .pool)) c false) →
-      after (set boxes r q) ≡ note r c before
+  pub note-moves : (r c : ℕ) (q : Replica) → r < length (g .boxes) →
+      Has q (has (box-at (g .boxes) r .requests)) (put (has (box-at (g .boxes) r .notices)) c false) (put (has (box-at (g .boxes) r .taken)) c true) (put (has (box-at (g .boxes) r .pool)) c false) →
+      after (set (g .boxes) r q) ≡ note r c before
   note-moves r c q h new =
       same-state (same-size r q) refl refl (same-boxes (record {
-        request = kept-at boxes r q no-box h (λ b. has (b .requests)) (new .requests);
-        notice = changed-at boxes r q no-box h (λ b. has (b .notices)) c false (new .notices);
-        taken = changed-at boxes r q no-box h (λ b. has (b .taken)) c true (new .taken);
-        pool = changed-at boxes r q no-box h (λ b. has (b .pool)) c false (new .pool);
+        request = kept-at (g .boxes) r q no-box h (λ b. has (b .requests)) (new .requests);
+        notice = changed-at (g .boxes) r q no-box h (λ b. has (b .notices)) c false (new .notices);
+        taken = changed-at (g .boxes) r q no-box h (λ b. has (b .taken)) c true (new .taken);
+        pool = changed-at (g .boxes) r q no-box h (λ b. has (b .pool)) c false (new .pool);
         answer = λ x y. refl;
       }))
 
-  pub drop-moves : (r c : ℕ) (q : Replica) → r < length boxes →
-      Has q (put (has (box-at boxes r .requests)) c false) (has (box-at boxes r .notices)) (has (box-at boxes r .taken)) (has (box-at boxes r .pool)) →
-      after (set boxes r q) ≡ dropped r c before
+  pub drop-moves : (r c : ℕ) (q : Replica) → r < length (g .boxes) →
+      Has q (put (has (box-at (g .boxes) r .requests)) c false) (has (box-at (g .boxes) r .notices)) (has (box-at (g .boxes) r .taken)) (has (box-at (g .boxes) r .pool)) →
+      after (set (g .boxes) r q) ≡ dropped r c before
   drop-moves r c q h new =
       same-state (same-size r q) refl refl (same-boxes (record {
-        request = changed-at boxes r q no-box h (λ b. has (b .requests)) c false (new .requests);
-        notice = kept-at boxes r q no-box h (λ b. has (b .notices)) (new .notices);
-        taken = kept-at boxes r q no-box h (λ b. has (b .taken)) (new .taken);
-        pool = kept-at boxes r q no-box h (λ b. has (b .pool)) (new .pool);
+        request = changed-at (g .boxes) r q no-box h (λ b. has (b .requests)) c false (new .requests);
+        notice = kept-at (g .boxes) r q no-box h (λ b. has (b .notices)) (new .notices);
+        taken = kept-at (g .boxes) r q no-box h (λ b. has (b .taken)) (new .taken);
+        pool = kept-at (g .boxes) r q no-box h (λ b. has (b .pool)) (new .pool);
         answer = λ x y. refl;
       }))
 
   -- the size of the pool that was written
-  pub pool-written : (r : ℕ) (q : Replica) → r < length boxes → (s : State S) → after (set boxes r q) ≡ s → tally (length jobs) (has (q .pool)) ≡ pool-size s r
+  pub pool-written : (r : ℕ) (q : Replica) → r < length (g .boxes) → (s : State S) → after (set (g .boxes) r q) ≡ s → tally (length (g .jobs)) (has (q .pool)) ≡ pool-size s r
   pool-written r q h s e =
-      ap (λ (b : Replica). tally (length jobs) (has (b .pool))) (sym (getD-set-same boxes r q no-box h)) ∙ ap (λ t. pool-size t r) e
+      ap (λ (b : Replica). tally (length (g .jobs)) (has (b .pool))) (sym (getD-set-same (g .boxes) r q no-box h)) ∙ ap (λ t. pool-size t r) e

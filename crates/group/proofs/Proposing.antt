@@ -19,28 +19,29 @@ use Rattle.group.specs.declared.job.Job.{Job}
 use Rattle.group.specs.declared.replica.Replica.{Replica}
 use Rattle.group.specs.Sets.{has, Requested}
 use Rattle.group.specs.Jobs.{Holds, answer-of}
-use Rattle.group.specs.View.{seen, no-job, job-at, box-at, All-became}
+use Rattle.group.specs.View.{Parts, seen, no-job, job-at, box-at, All-became}
+use Rattle.group.proofs.Held.{held}
 use Rattle.group.proofs.Places.{appended, appended-kept}
 use Rattle.group.proofs.Sending.{spread, unspread}
 
-module _ {S : Type 0} (fast : Bool) (capacity leader epoch : ℕ) (waiting log : List ℕ) (book : S) (jobs : List Job) (boxes : List Replica) where
-  pub has-room : length jobs < min capacity 256 → room-refusal (seen fast capacity leader epoch waiting log book jobs boxes) ≡ None
+module _ {S : Type 0} (g : Parts S) where
+  pub has-room : length (g .jobs) < min (g .capacity) 256 → room-refusal (seen g) ≡ None
   has-room h = grind (arith, tells)
 
-  pub propose-moves : (x : Record) (q : Job) (sent-boxes : List Replica) → Holds q x (λ _. Empty) Waiting None → All-became (Requested (length jobs)) boxes sent-boxes →
-      seen fast capacity leader epoch waiting log book (jobs ++ q ∷ []) sent-boxes ≡ propose x (seen fast capacity leader epoch waiting log book jobs boxes)
+  pub propose-moves : (x : Record) (q : Job) (sent-boxes : List Replica) → Holds q x (λ _. Empty) Waiting None → All-became (Requested (length (g .jobs))) (g .boxes) sent-boxes →
+      seen (held g (g .waiting) (g .jobs ++ q ∷ []) sent-boxes) ≡ propose x (seen g)
   propose-moves x q sent-boxes new sent =
-      same-state (ap (λ (n : ℕ). record { size = n; fast = fast; capacity = capacity }) (sent .many)) refl
+      same-state (ap (λ (n : ℕ). record { size = n; fast = g .fast; capacity = g .capacity }) (sent .many)) refl
       (same-jobs (record {
         count = simp (length-append, add-one);
-        job = appended jobs q no-job (λ j. j .«record») x (new .job);
-        phase = appended jobs q no-job (λ j. j .phase) Waiting (new .phase);
-        given = appended-kept jobs q no-job (λ j. j .given) (new .given);
+        job = appended (g .jobs) q no-job (λ j. j .«record») x (new .job);
+        phase = appended (g .jobs) q no-job (λ j. j .phase) Waiting (new .phase);
+        given = appended-kept (g .jobs) q no-job (λ j. j .given) (new .given);
       }))
       (same-boxes (record {
-        request = spread boxes sent-boxes (sent .many) (λ b. has (b .requests)) (length jobs) (λ r h. sent .each r h .requests);
-        notice = unspread boxes sent-boxes (sent .many) (λ b. has (b .notices)) (λ r h. sent .each r h .notices);
-        taken = unspread boxes sent-boxes (sent .many) (λ b. has (b .taken)) (λ r h. sent .each r h .taken);
-        pool = unspread boxes sent-boxes (sent .many) (λ b. has (b .pool)) (λ r h. sent .each r h .pool);
-        answer = λ r c. appended-kept jobs q no-job (λ j. answer-of j r) (new .answer r) c;
+        request = spread (g .boxes) sent-boxes (sent .many) (λ b. has (b .requests)) (length (g .jobs)) (λ r h. sent .each r h .requests);
+        notice = unspread (g .boxes) sent-boxes (sent .many) (λ b. has (b .notices)) (λ r h. sent .each r h .notices);
+        taken = unspread (g .boxes) sent-boxes (sent .many) (λ b. has (b .taken)) (λ r h. sent .each r h .taken);
+        pool = unspread (g .boxes) sent-boxes (sent .many) (λ b. has (b .pool)) (λ r h. sent .each r h .pool);
+        answer = λ r c. appended-kept (g .jobs) q no-job (λ j. answer-of j r) (new .answer r) c;
       }))

@@ -15,35 +15,36 @@ use Rattle.group.specs.declared.job.Job.{Job}
 use Rattle.group.specs.declared.replica.Replica.{Replica}
 use Rattle.group.specs.Sets.{has, Has}
 use Rattle.group.specs.Jobs.{Holds, answer-of}
-use Rattle.group.specs.View.{seen, no-box, no-job, box-at, job-at}
+use Rattle.group.specs.View.{Parts, seen, no-box, no-job, box-at, job-at}
+use Rattle.group.proofs.Held.{held}
 use Rattle.group.proofs.Places.{kept, kept-at, changed-at}
 use Rattle.group.proofs.Hearing.{swapped}
 
-module _ {S : Type 0} (m : Meaning S) (fast : Bool) (capacity leader epoch : ℕ) (waiting log : List ℕ) (book : S) (jobs : List Job) (boxes : List Replica) where
+module _ {S : Type 0} (m : Meaning S) (g : Parts S) where
   abbrev before : State S
-  before = seen fast capacity leader epoch waiting log book jobs boxes
+  before = seen g
 
-  pub take-moves : (r c : ℕ) (in-line : List ℕ) (p : Replica) (q : Job) → r < length boxes → c < length jobs →
-      in-line ≡ waiting ++ joins before r c →
-      Has p (put (has (box-at boxes r .requests)) c false) (has (box-at boxes r .notices)) (has (box-at boxes r .taken)) (put (has (box-at boxes r .pool)) c (pools m before r c || has (box-at boxes r .pool) c)) →
-      Holds q (job-at jobs c .«record») (put (answer-of (job-at jobs c)) r (Transit (reply m before r c))) (job-at jobs c .phase) (job-at jobs c .given) →
-      seen fast capacity leader epoch in-line log book (set jobs c q) (set boxes r p) ≡ take m r c before
+  pub take-moves : (r c : ℕ) (in-line : List ℕ) (p : Replica) (q : Job) → r < length (g .boxes) → c < length (g .jobs) →
+      in-line ≡ g .waiting ++ joins before r c →
+      Has p (put (has (box-at (g .boxes) r .requests)) c false) (has (box-at (g .boxes) r .notices)) (has (box-at (g .boxes) r .taken)) (put (has (box-at (g .boxes) r .pool)) c (pools m before r c || has (box-at (g .boxes) r .pool) c)) →
+      Holds q (job-at (g .jobs) c .«record») (put (answer-of (job-at (g .jobs) c)) r (Transit (reply m before r c))) (job-at (g .jobs) c .phase) (job-at (g .jobs) c .given) →
+      seen (held g in-line (set (g .jobs) c q) (set (g .boxes) r p)) ≡ take m r c before
   take-moves r c in-line p q hr hc line box-new job-new =
       same-state
-      (ap (λ (n : ℕ). record { size = n; fast = fast; capacity = capacity }) (length-set boxes r p))
-      (ap (λ (xs : List ℕ). record { leader = leader; epoch = epoch; waiting = xs; log = log; book = book }) line)
+      (ap (λ (n : ℕ). record { size = n; fast = g .fast; capacity = g .capacity }) (length-set (g .boxes) r p))
+      (ap (λ (xs : List ℕ). record { leader = g .leader; epoch = g .epoch; waiting = xs; log = g .log; book = g .book }) line)
       (same-jobs (record {
-        count = length-set jobs c q;
-        job = kept jobs c q no-job hc (λ j. j .«record») (job-new .job);
-        phase = kept jobs c q no-job hc (λ j. j .phase) (job-new .phase);
-        given = kept jobs c q no-job hc (λ j. j .given) (job-new .given);
+        count = length-set (g .jobs) c q;
+        job = kept (g .jobs) c q no-job hc (λ j. j .«record») (job-new .job);
+        phase = kept (g .jobs) c q no-job hc (λ j. j .phase) (job-new .phase);
+        given = kept (g .jobs) c q no-job hc (λ j. j .given) (job-new .given);
       }))
       (same-boxes (record {
-        request = changed-at boxes r p no-box hr (λ b. has (b .requests)) c false (box-new .requests);
-        notice = kept-at boxes r p no-box hr (λ b. has (b .notices)) (box-new .notices);
-        taken = kept-at boxes r p no-box hr (λ b. has (b .taken)) (box-new .taken);
-        pool = changed-at boxes r p no-box hr (λ b. has (b .pool)) c (pools m before r c || has (box-at boxes r .pool) c) (box-new .pool);
+        request = changed-at (g .boxes) r p no-box hr (λ b. has (b .requests)) c false (box-new .requests);
+        notice = kept-at (g .boxes) r p no-box hr (λ b. has (b .notices)) (box-new .notices);
+        taken = kept-at (g .boxes) r p no-box hr (λ b. has (b .taken)) (box-new .taken);
+        pool = changed-at (g .boxes) r p no-box hr (λ b. has (b .pool)) c (pools m before r c || has (box-at (g .boxes) r .pool) c) (box-new .pool);
         answer = λ b j.
-            changed-at jobs c q no-job hc answer-of r (Transit (reply m before r c)) (job-new .answer) j b ∙
-            swapped jobs r c (Transit (reply m before r c)) b j;
+            changed-at (g .jobs) c q no-job hc answer-of r (Transit (reply m before r c)) (job-new .answer) j b ∙
+            swapped (g .jobs) r c (Transit (reply m before r c)) b j;
       }))

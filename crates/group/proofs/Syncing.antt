@@ -24,7 +24,7 @@ use Rattle.group.specs.declared.job.Job.{Job}
 use Rattle.group.specs.declared.replica.Replica.{Replica}
 use Rattle.group.specs.Sets.{has, Notified, first-of, rest-of}
 use Rattle.group.specs.Jobs.{Holds, answer-of}
-use Rattle.group.specs.View.{seen, no-job, job-at, All-became}
+use Rattle.group.specs.View.{Parts, seen, no-job, job-at, All-became}
 use Rattle.group.proofs.Places.{kept, changed}
 use Rattle.group.proofs.Sending.{spread, unspread}
 
@@ -53,34 +53,34 @@ pub log-refused : (limit : ℕ) (xs : List ℕ) (n : ℕ) (f : Fault) → _≡_ 
     (eqb (length xs) limit ≡ true) × (added limit xs n ≡ xs) × (f ≡ log-full)
 log-refused limit xs n f h = (grind arith, grind arith, grind arith)
 
-module _ {S : Type 0} (m : Meaning S) (fast : Bool) (capacity leader epoch : ℕ) (waiting log : List ℕ) (book : S) (jobs : List Job) (boxes : List Replica) where
+module _ {S : Type 0} (m : Meaning S) (g : Parts S) where
   abbrev before : State S
-  before = seen fast capacity leader epoch waiting log book jobs boxes
+  before = seen g
 
-  pub may-sync : (c : ℕ) (rest : List ℕ) → waiting ≡ c ∷ rest → eqb (length log) capacity ≡ false → sync-refusal waiting before ≡ None
+  pub may-sync : (c : ℕ) (rest : List ℕ) → (g .waiting) ≡ c ∷ rest → eqb (length (g .log)) (g .capacity) ≡ false → sync-refusal (g .waiting) before ≡ None
   may-sync c rest line room = ap (λ xs. sync-refusal xs before) line ∙ ap (λ b. cond b (Some log-full) None) room
 
-  pub no-room : (c : ℕ) (rest : List ℕ) → waiting ≡ c ∷ rest → eqb (length log) capacity ≡ true → sync-refusal waiting before ≡ Some log-full
+  pub no-room : (c : ℕ) (rest : List ℕ) → (g .waiting) ≡ c ∷ rest → eqb (length (g .log)) (g .capacity) ≡ true → sync-refusal (g .waiting) before ≡ Some log-full
   no-room c rest line full = ap (λ xs. sync-refusal xs before) line ∙ ap (λ b. cond b (Some log-full) None) full
 
-  pub sync-moves : (c : ℕ) (rest : List ℕ) (q : Job) (told-boxes : List Replica) → c < length jobs →
-      Holds q (job-at jobs c .«record») (answer-of (job-at jobs c)) (job-at jobs c .phase) (Some (told-result m before c)) →
-      All-became (Notified c) boxes told-boxes →
-      seen fast capacity leader epoch rest (log ++ c ∷ []) (m .after book (job-at jobs c .«record»)) (set jobs c q) told-boxes ≡ log-job m c rest before
+  pub sync-moves : (c : ℕ) (rest : List ℕ) (q : Job) (told-boxes : List Replica) → c < length (g .jobs) →
+      Holds q (job-at (g .jobs) c .«record») (answer-of (job-at (g .jobs) c)) (job-at (g .jobs) c .phase) (Some (told-result m before c)) →
+      All-became (Notified c) (g .boxes) told-boxes →
+      seen (record { fast = g .fast; capacity = g .capacity; leader = g .leader; epoch = g .epoch; waiting = rest; log = g .log ++ c ∷ []; book = m .after (g .book) (job-at (g .jobs) c .«record»); jobs = set (g .jobs) c q; boxes = told-boxes }) ≡ log-job m c rest before
   sync-moves c rest q told-boxes hc new sent =
       same-state
-      (ap (λ (n : ℕ). record { size = n; fast = fast; capacity = capacity }) (sent .many))
+      (ap (λ (n : ℕ). record { size = n; fast = g .fast; capacity = g .capacity }) (sent .many))
       refl
       (same-jobs (record {
-        count = length-set jobs c q;
-        job = kept jobs c q no-job hc (λ j. j .«record») (new .job);
-        phase = kept jobs c q no-job hc (λ j. j .phase) (new .phase);
-        given = changed jobs c q no-job hc (λ j. j .given) (Some (told-result m before c)) (new .given);
+        count = length-set (g .jobs) c q;
+        job = kept (g .jobs) c q no-job hc (λ j. j .«record») (new .job);
+        phase = kept (g .jobs) c q no-job hc (λ j. j .phase) (new .phase);
+        given = changed (g .jobs) c q no-job hc (λ j. j .given) (Some (told-result m before c)) (new .given);
       }))
       (same-boxes (record {
-        request = unspread boxes told-boxes (sent .many) (λ b. has (b .requests)) (λ r h. sent .each r h .requests);
-        notice = spread boxes told-boxes (sent .many) (λ b. has (b .notices)) c (λ r h. sent .each r h .notices);
-        taken = unspread boxes told-boxes (sent .many) (λ b. has (b .taken)) (λ r h. sent .each r h .taken);
-        pool = unspread boxes told-boxes (sent .many) (λ b. has (b .pool)) (λ r h. sent .each r h .pool);
-        answer = λ r c′. kept jobs c q no-job hc (λ j. answer-of j r) (new .answer r) c′;
+        request = unspread (g .boxes) told-boxes (sent .many) (λ b. has (b .requests)) (λ r h. sent .each r h .requests);
+        notice = spread (g .boxes) told-boxes (sent .many) (λ b. has (b .notices)) c (λ r h. sent .each r h .notices);
+        taken = unspread (g .boxes) told-boxes (sent .many) (λ b. has (b .taken)) (λ r h. sent .each r h .taken);
+        pool = unspread (g .boxes) told-boxes (sent .many) (λ b. has (b .pool)) (λ r h. sent .each r h .pool);
+        answer = λ r c′. kept (g .jobs) c q no-job hc (λ j. answer-of j r) (new .answer r) c′;
       }))

@@ -48,18 +48,42 @@ boxes-seen boxes jobs = record {
   answer = λ r c. answer-of (job-at jobs c) r;
 }
 
-abbrev pub seen : {S : Type 0} → Bool → ℕ → ℕ → ℕ → List ℕ → List ℕ → S → List Job → List Replica → State S
-seen fast capacity leader epoch waiting log book jobs boxes = record {
-  fixed = record { size = length boxes; fast = fast; capacity = capacity };
-  lead = record { leader = leader; epoch = epoch; waiting = waiting; log = log; book = book };
-  jobs = jobs-seen jobs;
-  boxes = boxes-seen boxes jobs;
+-- what a state is read from
+pub record Parts (S : Type 0) : Type 0 where
+  pub fast : Bool
+  pub capacity : ℕ
+  pub leader : ℕ
+  pub epoch : ℕ
+  pub waiting : List ℕ
+  pub log : List ℕ
+  pub book : S
+  pub jobs : List Job
+  pub boxes : List Replica
+
+abbrev pub seen : {S : Type 0} → Parts S → State S
+seen p = record {
+  fixed = record { size = length (p .boxes); fast = p .fast; capacity = p .capacity };
+  lead = record { leader = p .leader; epoch = p .epoch; waiting = p .waiting; log = p .log; book = p .book };
+  jobs = jobs-seen (p .jobs);
+  boxes = boxes-seen (p .boxes) (p .jobs);
 }
 
 -- the group, by what its book and its log mean
+abbrev pub parts : {B L S : Type 0} → (B → S) → (L → List ℕ) → ℕ → Group B L → Parts S
+parts state entries capacity g = record {
+  fast = g .fast;
+  capacity = capacity;
+  leader = g .leader;
+  epoch = g .epoch;
+  waiting = vec-items (g .waiting .jobs);
+  log = entries (g .log);
+  book = state (g .book);
+  jobs = vec-items (g .jobs);
+  boxes = vec-items (g .boxes);
+}
+
 abbrev pub view : {B L S : Type 0} → (B → S) → (L → List ℕ) → ℕ → Group B L → State S
-view state entries capacity g =
-    seen (g .fast) capacity (g .leader) (g .epoch) (vec-items (g .waiting .jobs)) (entries (g .log)) (state (g .book)) (vec-items (g .jobs)) (vec-items (g .boxes))
+view state entries capacity g = seen (parts state entries capacity g)
 
 -- each box became what P says, and none came or went
 pub record All-became (P : Replica → Replica → Type 0) (old new : List Replica) : Type 0 where

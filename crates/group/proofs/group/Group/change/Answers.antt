@@ -9,7 +9,7 @@ use Rattle.protocol.specs.Refusals.{change-refusal}
 use Rattle.protocol.specs.Steps.{change, changed}
 use Rattle.group.specs.declared.replica.Replica.{Replica}
 use Rattle.group.specs.Sets.{has, Has}
-use Rattle.group.specs.View.{view, seen, no-box, box-at}
+use Rattle.group.specs.View.{Parts, view, parts, seen, no-box, box-at}
 use Rattle.group.proofs.Places.{read-any}
 use Rattle.group.proofs.Queues.{below-ascending}
 use Rattle.group.proofs.Accepted.{step-made, told, step-refused, told-on}
@@ -48,26 +48,24 @@ returns g c =
     let v = c .args .voters in
     let boxes = self .boxes .items in
     let jobs = self .jobs .items in
-    let book = g .B·Book .state (self .book) in
-    let log = g .L·Log .entries (self .log) in
-    let waiting = self .waiting .jobs .items in
-    let limit = g .L·Log .limit in
-    let s = view (g .B·Book .state) (g .L·Log .entries) limit self in
+    let ps = parts (g .B·Book .state) (g .L·Log .entries) (g .L·Log .limit) self in
+    let s = seen ps in
     let kept = c .recover-kept .result in
     let p = c .with-pool .result in
     let free = settled-ok (change-refusal l v s) (c .in-Continue-allows .ensures tt) in
-    let in-group = seats (self .fast) limit (self .leader) (self .epoch) waiting log book jobs boxes l v free .0 in
+    let in-group = seats ps l v free .0 in
     let old : c .index-at .result .now ≡ box-at boxes l = c .index-at .ensures ∙ read-any boxes l (c .index-at .result .now) no-box in-group in
     let new = subst (λ (b : Replica). Has p (has (b .requests)) (has (b .notices)) (has (b .taken)) (has kept)) old (c .with-pool .ensures) in
     let number : c .len .result ≡ length jobs = c .len .ensures ∙ self .jobs .ok .0 in
     let number₂ : c .len-2 .result ≡ length jobs = c .len-2 .ensures ∙ self .jobs .ok .0 in
     let line : c .refill .last .self .jobs .items ≡ ascending (length jobs) (has kept) = c .refill .ensures ∙ ap (λ n. ascending n (has kept)) number in
-    let moves = change-moves (self .fast) limit (self .leader) (self .epoch) waiting log book jobs boxes l v in-group kept p (c .recover-kept .ensures) new in
-    let all : seen (self .fast) limit l (self .epoch + 1) (c .refill .last .self .jobs .items) log book jobs (set boxes l p) ≡ change l v s =
-    ap (λ (xs : List ℕ). seen (self .fast) limit l (self .epoch + 1) xs log book jobs (set boxes l p)) line ∙ moves in
+    let moves = change-moves ps l v in-group kept p (c .recover-kept .ensures) new in
+    let after : List ℕ → Parts (g .B·Book .State) = λ xs. record { fast = ps .fast; capacity = ps .capacity; leader = l; epoch = ps .epoch + 1; waiting = xs; log = ps .log; book = ps .book; jobs = jobs; boxes = set boxes l p } in
+    let all : seen (after (c .refill .last .self .jobs .items)) ≡ change l v s =
+    ap (λ (xs : List ℕ). seen (after xs)) line ∙ moves in
     record {
       state = step-made (change-refusal l v s) s free all;
       outcome = told (change-refusal l v s) free
-          (change-told (self .fast) limit (self .leader) (self .epoch) waiting log book jobs boxes l v in-group kept p (c .recover-kept .ensures) new (c .size .result)
+          (change-told ps l v in-group kept p (c .recover-kept .ensures) new (c .size .result)
           (c .size .ensures ∙ ap (λ n. tally n (has kept)) number₂));
     }

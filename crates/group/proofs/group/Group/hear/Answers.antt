@@ -15,7 +15,7 @@ use Rattle.protocol.specs.Refusals.{hear-refusal}
 use Rattle.protocol.specs.Steps.{hear, phase-after}
 use Rattle.group.specs.declared.job.Job.{Job}
 use Rattle.group.specs.Jobs.{Holds, answer-of, transit-of}
-use Rattle.group.specs.View.{view, no-job, job-at}
+use Rattle.group.specs.View.{view, parts, seen, no-job, job-at}
 use Rattle.group.proofs.Places.{read-any}
 use Rattle.group.proofs.Accepted.{step-made, told, step-refused, told-refused, told-on}
 use Rattle.group.proofs.Noting.{under-way, not-under-way}
@@ -48,11 +48,12 @@ returns-in-rest g c =
     let j = c .args .job in
     let boxes = self .boxes .items in
     let jobs = self .jobs .items in
-    let s = view (g .B·Book .state) (g .L·Log .entries) (g .L·Log .limit) self in
+    let ps = parts (g .B·Book .state) (g .L·Log .entries) (g .L·Log .limit) self in
+    let s = seen ps in
     let names = c .in-Continue-named .ensures tt in
     let old : c .index-it .result .now ≡ job-at jobs j = c .index-it .ensures ∙ read-any jobs j (c .index-it .result .now) no-job (names .proposed) in
     let none : transit-of (answer-of (job-at jobs j) r) ≡ None = ap (λ (b : Job). transit-of (answer-of b r)) (sym old) ∙ sym (c .in-transit .ensures) ∙ c .in-rest .is in
-    let why = not-under-way (self .fast) (g .L·Log .limit) (self .leader) (self .epoch) (self .waiting .jobs .items) (g .L·Log .entries (self .log)) (g .B·Book .state (self .book)) jobs boxes r j (in-transit (answer-of (job-at jobs j) r)) (names .in-group) (names .proposed) (not-sent (answer-of (job-at jobs j) r) none) in
+    let why = not-under-way ps r j (in-transit (answer-of (job-at jobs j) r)) (names .in-group) (names .proposed) (not-sent (answer-of (job-at jobs j) r) none) in
     record {
       state = step-refused (hear-refusal r j s) s (hear r j s) why;
       outcome = ap Err (c .of .ensures) ∙ told-refused (hear-refusal r j s) (phase-after s r j) why;
@@ -68,21 +69,18 @@ returns g c =
     let x = c .in-Some .reply in
     let boxes = self .boxes .items in
     let jobs = self .jobs .items in
-    let book = g .B·Book .state (self .book) in
-    let log = g .L·Log .entries (self .log) in
-    let waiting = self .waiting .jobs .items in
-    let limit = g .L·Log .limit in
-    let s = view (g .B·Book .state) (g .L·Log .entries) limit self in
+    let ps = parts (g .B·Book .state) (g .L·Log .entries) (g .L·Log .limit) self in
+    let s = seen ps in
     let names = c .in-Continue-named .ensures tt in
     let old : c .index-it .result .now ≡ job-at jobs j = c .index-it .ensures ∙ read-any jobs j (c .index-it .result .now) no-job (names .proposed) in
     let some : transit-of (answer-of (job-at jobs j) r) ≡ Some x = ap (λ (b : Job). transit-of (answer-of b r)) (sym old) ∙ sym (c .in-transit .ensures) ∙ c .in-Some .is in
     let transit = sent (answer-of (job-at jobs j) r) x some in
-    let free = under-way (self .fast) limit (self .leader) (self .epoch) waiting log book jobs boxes r j (in-transit (answer-of (job-at jobs j) r)) (names .in-group) (names .proposed) (ap in-transit transit) in
+    let free = under-way ps r j (in-transit (answer-of (job-at jobs j) r)) (names .in-group) (names .proposed) (ap in-transit transit) in
     let size : c .len .result ≡ length boxes = c .len .ensures ∙ self .boxes .ok .0 in
     let new₀ = subst (λ (b : Job). Holds q (b .«record») (put (answer-of b) r (Heard x)) (decide (c .len .result) (answer-of q) (b .phase)) (b .given)) old (c .heard-it .ensures) in
     let new = subst (λ n. Holds q (job-at jobs j .«record») (put (answer-of (job-at jobs j)) r (Heard x)) (decide n (answer-of q) (job-at jobs j .phase)) (job-at jobs j .given)) size new₀ in
-    let moves = hear-moves (self .fast) limit (self .leader) (self .epoch) waiting log book jobs boxes r j q x (names .proposed) transit new in
+    let moves = hear-moves ps r j q x (names .proposed) transit new in
     record {
       state = step-made (hear-refusal r j s) s free moves;
-      outcome = told (hear-refusal r j s) free (phase-heard (self .fast) limit (self .leader) (self .epoch) waiting log book jobs boxes r j q x (names .proposed) transit new);
+      outcome = told (hear-refusal r j s) free (phase-heard ps r j q x (names .proposed) transit new);
     }

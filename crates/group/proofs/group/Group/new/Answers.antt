@@ -21,5 +21,5 @@ returns g c =
     let waits = c .in-Continue-waiting .ensures tt in
     let jobs = c .in-Continue-jobs .ensures tt .made .0 in (
       settled-ok (setting-refusal k) (c .in-Continue-check .ensures tt),
-      (λ i. seen (k .fast) (g .L·Log .limit) (k .leader) 1 (waits i) (c .fresh-2 .ensures i) (c .fresh .ensures i) (jobs i) (boxes .items)) ∙ fresh,
+      (λ i. seen (record { fast = k .fast; capacity = g .L·Log .limit; leader = k .leader; epoch = 1; waiting = waits i; log = c .fresh-2 .ensures i; book = c .fresh .ensures i; jobs = jobs i; boxes = boxes .items })) ∙ fresh,
     )

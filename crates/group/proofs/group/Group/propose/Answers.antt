@@ -16,8 +16,9 @@ use Rattle.std.specs.Changed.{refilled}
 use Rattle.std.proofs.shelf.Lists.{refilled-is}
 use Rattle.group.specs.declared.replica.Replica.{Replica}
 use Rattle.group.specs.Sets.{Requested}
-use Rattle.group.specs.View.{view, seen, All-became}
+use Rattle.group.specs.View.{view, parts, seen, All-became}
 use Rattle.group.proofs.Queues.{below-more}
+use Rattle.group.proofs.Held.{held}
 use Rattle.group.proofs.Accepted.{step-made, told}
 use Rattle.group.proofs.Proposing.{has-room, propose-moves}
 use Rattle.group.proofs.group.Group.propose.Needs as need
@@ -50,21 +51,20 @@ returns g c =
     let self = c .args .self .now in
     let boxes = self .boxes .items in
     let jobs = self .jobs .items in
-    let book = g .B·Book .state (self .book) in
-    let log = g .L·Log .entries (self .log) in
     let waiting = self .waiting .jobs .items in
     let limit = g .L·Log .limit in
-    let s = view (g .B·Book .state) (g .L·Log .entries) limit self in
+    let ps = parts (g .B·Book .state) (g .L·Log .entries) (g .L·Log .limit) self in
+    let s = seen ps in
     let misfit = g .B·Book .meaning .misfit (c .args .record) in
     let number : c .len-job .result ≡ length jobs = c .len-job .ensures ∙ self .jobs .ok .0 in
     let most : c .min .result ≡ min limit 256 = c .min .ensures ∙ ap (λ n. min n 256) (c .capacity .ensures) in
     let left : c .len-job .result < c .min .result = c .if-job-min .left in
-    let room = has-room (self .fast) limit (self .leader) (self .epoch) waiting log book jobs boxes (subst (λ n. length jobs < n) most (subst (λ n. n < c .min .result) number left)) in
+    let room = has-room ps (subst (λ n. length jobs < n) most (subst (λ n. n < c .min .result) number left)) in
     let free = allowed misfit s (fits misfit (c .in-Continue-check .ensures tt)) room in
     let sent₀ = subst (λ n. All-became (Requested n) (c .deref-mut .result .now) (c .request-all .last .boxes)) number (c .request-all .ensures) in
     let sent = subst (λ (b : List Replica). All-became (Requested (length jobs)) b (c .request-all .last .boxes)) (c .deref-mut .ensures .value) sent₀ in
-    let moves = propose-moves (self .fast) limit (self .leader) (self .epoch) waiting log book jobs boxes (c .args .record) (c .new .result) (c .request-all .last .boxes) (c .new .ensures) sent in
+    let moves = propose-moves ps (c .args .record) (c .new .result) (c .request-all .last .boxes) (c .new .ensures) sent in
     let refills = refilled-is (self .boxes) (c .request-all .last .boxes) (sent .many ∙ sym (self .boxes .ok .0)) in
-    let pushed : seen (self .fast) limit (self .leader) (self .epoch) waiting log book (c .push-reserved .last .self .items) (refilled (self .boxes) (c .request-all .last .boxes) .items) ≡ propose (c .args .record) s =
-    (λ i. seen (self .fast) limit (self .leader) (self .epoch) waiting log book (c .push-reserved .ensures .items i) (refills i)) ∙ moves in
+    let pushed : seen (held ps (ps .waiting) (c .push-reserved .last .self .items) (refilled (self .boxes) (c .request-all .last .boxes) .items)) ≡ propose (c .args .record) s =
+    (λ i. seen (held ps (ps .waiting) (c .push-reserved .ensures .items i) (refills i))) ∙ moves in
     record { state = step-made (propose-refusal misfit s) s free pushed; outcome = told (propose-refusal misfit s) free number }

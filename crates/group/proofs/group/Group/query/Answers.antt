@@ -4,7 +4,7 @@ use lib.ListN.{length}
 use borrow.Author.Needs.{needs}
 use Rattle.protocol.specs.Refusals.{query-refusal}
 use Rattle.protocol.proofs.Conclusion.{reached-kept}
-use Rattle.group.specs.View.{view, no-job, job-at}
+use Rattle.group.specs.View.{view, parts, seen, no-job, job-at}
 use Rattle.group.proofs.Places.{read-any}
 use Rattle.group.proofs.Accepted.{told}
 use Rattle.group.proofs.Asking.{may-ask, status-seen}
@@ -24,15 +24,13 @@ returns g c =
     let j = c .args .job in
     let boxes = self .boxes .items in
     let jobs = self .jobs .items in
-    let book = g .B·Book .state (self .book) in
-    let log = g .L·Log .entries (self .log) in
-    let waiting = self .waiting .jobs .items in
     let limit = g .L·Log .limit in
-    let s = view (g .B·Book .state) (g .L·Log .entries) limit self in
+    let ps = parts (g .B·Book .state) (g .L·Log .entries) (g .L·Log .limit) self in
+    let s = seen ps in
     let proposed : j < length jobs = search needs in
     let was : c .index-it .result .now ≡ job-at jobs j = c .index-it .ensures ∙ read-any jobs j (c .index-it .result .now) no-job proposed in
     record {
       promise = reached-kept (g .B·Book .meaning) (g .B·Book·met .lawful) limit s;
-      outcome = told (query-refusal j s) (may-ask (self .fast) limit (self .leader) (self .epoch) waiting log book jobs boxes j proposed)
-          (status-seen (self .fast) limit (self .leader) (self .epoch) waiting log book jobs boxes j (c .index-it .result .now) (c .told .result) (c .place-in .result) was (c .told .ensures) (c .place-in .ensures));
+      outcome = told (query-refusal j s) (may-ask ps j proposed)
+          (status-seen ps j (c .index-it .result .now) (c .told .result) (c .place-in .result) was (c .told .ensures) (c .place-in .ensures));
     }

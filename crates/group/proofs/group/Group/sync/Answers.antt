@@ -17,7 +17,7 @@ use Rattle.group.specs.declared.job.Job.{Job}
 use Rattle.group.specs.declared.replica.Replica.{Replica}
 use Rattle.group.specs.Sets.{Notified, rest-of}
 use Rattle.group.specs.Jobs.{Holds, answer-of}
-use Rattle.group.specs.View.{view, seen, no-job, job-at, All-became}
+use Rattle.group.specs.View.{Parts, view, parts, seen, no-job, job-at, All-became}
 use Rattle.group.proofs.Places.{read-any}
 use Rattle.group.proofs.Accepted.{step-made, told}
 use Rattle.group.proofs.Syncing.{head-first, head-below, log-took, may-sync, sync-moves}
@@ -34,7 +34,8 @@ returns g c =
     let waiting = self .waiting .jobs .items in
     let limit = g .L·Log .limit in
     let m = g .B·Book .meaning in
-    let s = view (g .B·Book .state) (g .L·Log .entries) limit self in
+    let ps = parts (g .B·Book .state) (g .L·Log .entries) (g .L·Log .limit) self in
+    let s = seen ps in
     let j = c .in-Some .head in
     let q = c .logged .result in
     let rest = rest-of waiting in
@@ -51,10 +52,11 @@ returns g c =
     let new = subst (λ n. Holds q (job-at jobs j .«record») (answer-of (job-at jobs j)) (job-at jobs j .phase) (Some n)) result new₀ in
     let sent = subst (λ (b : List Replica). All-became (Notified j) b (c .notify-all .last .boxes)) (c .deref-mut .ensures .value) (c .notify-all .ensures) in
     let refills = refilled-is (self .boxes) (c .notify-all .last .boxes) (sent .many ∙ sym (self .boxes .ok .0)) in
-    let free = may-sync m (self .fast) limit (self .leader) (self .epoch) waiting log book jobs boxes j rest line (took .0) in
-    let moves = sync-moves m (self .fast) limit (self .leader) (self .epoch) waiting log book jobs boxes j rest q (c .notify-all .last .boxes) below new sent in
-    let all : seen (self .fast) limit (self .leader) (self .epoch) (c .advance .last .self .jobs .items) (g .L·Log .entries (c .add .last .self)) (g .B·Book .state (c .apply-result .last .self)) (set jobs j q) (refilled (self .boxes) (c .notify-all .last .boxes) .items) ≡ log-job m j rest s =
-    (λ i. seen (self .fast) limit (self .leader) (self .epoch) (c .advance .ensures i) (grown i) (moved-on i) (set jobs j q) (refills i)) ∙ moves in
+    let free = may-sync m ps j rest line (took .0) in
+    let moves = sync-moves m ps j rest q (c .notify-all .last .boxes) below new sent in
+    let after : List ℕ → List ℕ → g .B·Book .State → List Replica → Parts (g .B·Book .State) = λ xs ys b bs. record { fast = self .fast; capacity = limit; leader = self .leader; epoch = self .epoch; waiting = xs; log = ys; book = b; jobs = set jobs j q; boxes = bs } in
+    let all : seen (after (c .advance .last .self .jobs .items) (g .L·Log .entries (c .add .last .self)) (g .B·Book .state (c .apply-result .last .self)) (refilled (self .boxes) (c .notify-all .last .boxes) .items)) ≡ log-job m j rest s =
+    (λ i. seen (after (c .advance .ensures i) (grown i) (moved-on i) (refills i))) ∙ moves in
     record {
       state = step-made (sync-refusal waiting s) s free (all ∙ sym (ap (λ xs. sync m xs s) line));
       outcome = told (sync-refusal waiting s) free (ap (λ (n : ℕ). record { job = j; result = n }) result ∙ sym (ap (λ xs. synced m xs s) line));

@@ -14,7 +14,7 @@ use Rattle.group.specs.declared.job.Job.{Job}
 use Rattle.group.specs.declared.replica.Replica.{Replica}
 use Rattle.group.specs.Sets.{has, Has}
 use Rattle.group.specs.Jobs.{Holds, answer-of}
-use Rattle.group.specs.View.{view, no-box, no-job, box-at, job-at}
+use Rattle.group.specs.View.{view, parts, seen, no-box, no-job, box-at, job-at}
 use Rattle.group.proofs.Places.{read-any}
 use Rattle.group.proofs.Queues.{below-append}
 use Rattle.group.proofs.Receiving.{take-moves}
@@ -47,12 +47,10 @@ returns g c =
     let j = c .args .job in
     let boxes = self .boxes .items in
     let jobs = self .jobs .items in
-    let book = g .B·Book .state (self .book) in
-    let log = g .L·Log .entries (self .log) in
     let waiting = self .waiting .jobs .items in
-    let limit = g .L·Log .limit in
     let m = g .B·Book .meaning in
-    let s = view (g .B·Book .state) (g .L·Log .entries) limit self in
+    let ps = parts (g .B·Book .state) (g .L·Log .entries) (g .L·Log .limit) self in
+    let s = seen ps in
     let p = c .answered .result in
     let q = c .answered-2 .result in
     let old : c .index-at .result .now ≡ box-at boxes r = c .index-at .ensures ∙ read-any boxes r (c .index-at .result .now) no-box (c .pre .in-group) in
@@ -62,6 +60,6 @@ returns g c =
     let job-new₀ = subst (λ (b : Job). Holds q (b .«record») (put (answer-of b) r (Transit (c .reply-reply .result))) (b .phase) (b .given)) was (c .answered-2 .ensures) in
     let job-new = subst (λ (x : Reply). Holds q (job-at jobs j .«record») (put (answer-of (job-at jobs j)) r (Transit x)) (job-at jobs j .phase) (job-at jobs j .given)) (c .reply-reply .ensures) job-new₀ in
     record {
-      state = take-moves m (self .fast) limit (self .leader) (self .epoch) waiting log book jobs boxes r j (c .join .last .self .jobs .items) p q (c .pre .in-group) (c .pre .proposed) (c .join .ensures) box-new job-new;
+      state = take-moves m ps r j (c .join .last .self .jobs .items) p q (c .pre .in-group) (c .pre .proposed) (c .join .ensures) box-new job-new;
       outcome = c .verdict-of .ensures ∙ ap verdict (c .reply-reply .ensures);
     }
