@@ -28,13 +28,13 @@ pub enum Outcome {
 // A call, and what it should come to.
 pub type Row = (Call, Outcome);
 
-pub fn shipped(rt: &LibcRuntime, size: u32, leader: u32, fast: bool) -> Result<Shipped, Fail> {
+pub(crate) fn shipped(rt: &LibcRuntime, size: u32, leader: u32, fast: bool) -> Result<Shipped, Fail> {
     let setting = Setting { size, leader, fast };
     Ok(Shipped::new(rt.alloc(), setting)?)
 }
 
 // A refusal that is the book's names the field, and any other is the group's and names none.
-pub fn refused(fault: Fault) -> Outcome {
+pub(crate) fn refused(fault: Fault) -> Outcome {
     match (fault.number, fault.layer, fault.field) {
         (Refusal::Misfit, Layer::Book, Some(field)) => Outcome::Misfit(field),
         (number, Layer::Group, None) => Outcome::Refused(number.number()),
@@ -61,7 +61,7 @@ fn ask<B: Book, L: Log>(group: &mut Group<B, L>, call: Call) -> Result<Outcome, 
 }
 
 // Makes the call, and says what it came to.
-pub fn call_on<B: Book, L: Log>(group: &mut Group<B, L>, call: Call) -> Outcome {
+pub(crate) fn call_on<B: Book, L: Log>(group: &mut Group<B, L>, call: Call) -> Outcome {
     match ask(group, call) {
         Ok(outcome) => outcome,
         Err(fault) => refused(fault),
@@ -78,7 +78,7 @@ fn statuses<B: Book, L: Log>(group: &Group<B, L>) -> [Option<Status>; 8] {
 }
 
 // Makes one call after the other. A refused one leaves every job as it was.
-pub fn plays<B: Book, L: Log>(group: &mut Group<B, L>, rows: &[Row]) -> Result<(), Fail> {
+pub(crate) fn plays<B: Book, L: Log>(group: &mut Group<B, L>, rows: &[Row]) -> Result<(), Fail> {
     for (i, (call, expected)) in rows.iter().enumerate() {
         let before = statuses(group);
         let came = call_on(group, *call);
