@@ -1,0 +1,10 @@
+pub mod Sequences
+pub mod Past
+pub mod Enabling
+pub mod Cells
+pub mod Client
+pub mod Only
+pub mod Effects
+pub mod Following
+pub mod Standing
+pub mod Types

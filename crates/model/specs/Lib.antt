@@ -1,0 +1,10 @@
+pub mod Sets
+pub mod Variables
+pub mod Amendments
+pub mod Actions
+pub mod Next
+pub mod Reading
+pub mod Follows
+pub mod Stability
+pub mod Types
+pub mod Cases
