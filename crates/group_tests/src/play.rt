@@ -28,7 +28,12 @@ pub enum Outcome {
 // A call, and what it should come to.
 pub type Row = (Call, Outcome);
 
-pub(crate) fn shipped(rt: &LibcRuntime, size: u32, leader: u32, fast: bool) -> Result<Shipped, Fail> {
+pub(crate) fn shipped(
+    rt: &LibcRuntime,
+    size: u32,
+    leader: u32,
+    fast: bool,
+) -> Result<Shipped, Fail> {
     let setting = Setting { size, leader, fast };
     Ok(Shipped::new(rt.alloc(), setting)?)
 }

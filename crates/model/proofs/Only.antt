@@ -87,7 +87,12 @@ module _ {S : Type 0} (m : Meaning S) (C : Constants) (s a b : Model S) where
   only-notice r c p q = equal (cc) (cc) (cc) (cc) (cc) (cc) (cc) (cc) (cc) (cc) (cc) (cc) (cc) (cc) (cc) (cc)
 
   only-change : (l : ℕ) (q : Set) → LeaderChange m C l q s a → LeaderChange m C l q s b → a ≡ b
-  only-change l v p q = equal (cc) (cc) (cc) (cc) (cc) (cc) (ascends-one (a .uncommittedCmds) (b .uncommittedCmds) (p .uncommittedCmds-order) (q .uncommittedCmds-order) (p .uncommittedCmds-in .once) (q .uncommittedCmds-in .once) (λ c. p .uncommittedCmds-in .members c ∙ sym (q .uncommittedCmds-in .members c))) (cc) (cc) (cc) (cc) (cc) (cc) (cc) (cc) (cc)
+  only-change l v p q = equal (cc) (cc) (cc) (cc) (cc) (cc) (sequence) (cc) (cc) (cc) (cc) (cc) (cc) (cc) (cc) (cc)
+    where
+      sequence : a .uncommittedCmds ≡ b .uncommittedCmds
+      sequence =
+          ascends-one (a .uncommittedCmds) (b .uncommittedCmds) (p .uncommittedCmds-order) (q .uncommittedCmds-order) (p .uncommittedCmds-in .once) (q .uncommittedCmds-in .once)
+          (λ c. p .uncommittedCmds-in .members c ∙ sym (q .uncommittedCmds-in .members c))
 
   only-hear : (r c : ℕ) → a .phase c ≡ b .phase c → HearResponse m C r c s a → HearResponse m C r c s b → a ≡ b
   only-hear r c same p q = equal (cc) (cc) (cc) (cc) (cc) (cc) (cc) (cc) (cc) (cc) (cc) (cc) (cc) (cc) (cc) (fun-ext (λ d. phases d (cases-eq d c)))

@@ -41,11 +41,13 @@ module _ {S : Type 0} (m : Meaning S) where
       go None ok = led-moved call (t .present) (t .past) ok h e
       go (Some fault) refused = h e
 
-  led-run : (calls : List Call) (t : Trace S) → ((e : ℕ) → t .past .led e ≤ t .present .fixed .size) → (e : ℕ) → traced m calls t .past .led e ≤ traced m calls t .present .fixed .size
+  size-onward : (call : Call) (t : Trace S) → onward m call t .present .fixed .size ≡ t .present .fixed .size
+  size-onward call t = ap (λ (s : State S). s .fixed .size) (present-onward m call t) ∙ ap (λ k. k .size) (fixed-step m call (t .present))
+
+  led-run : (calls : List Call) (t : Trace S) → ((e : ℕ) → t .past .led e ≤ t .present .fixed .size) →
+      (e : ℕ) → traced m calls t .past .led e ≤ traced m calls t .present .fixed .size
   led-run [] t h e = h e
-  led-run (call ∷ calls) t h e =
-      led-run calls (onward m call t) (λ d. let same : onward m call t .present .fixed .size ≡ t .present .fixed .size = ap (λ (s : State S). s .fixed .size) (present-onward m call t) ∙ ap (λ k. k .size) (fixed-step m call (t .present)) in
-      rw same (led-onward call t h d)) e
+  led-run (call ∷ calls) t h e = led-run calls (onward m call t) (λ d. rw (size-onward call t) (led-onward call t h d)) e
 
   types : (s : State S) (p : Past) → Inv m s → Ties m s p → ((e : ℕ) → p .led e ≤ s .fixed .size) → TypeOK (constants-of (s .fixed)) (reading (record { present = s; past = p }))
   types s p i ties led =

@@ -1,5 +1,5 @@
 -- The actions of the published model, line by line: what each one changes, and what it leaves UNCHANGED.
--- A line with a number is amended so; `also` has the variables that the amendments add.
+-- A number above a line is that of its amendment; `also` has the variables that the amendments add.
 use mathlib.Core.Path.{_≡_}
 use mathlib.Core.Bool.{Bool, true, not, _&&_}
 use mathlib.Core.List.{[], _∷_}
@@ -125,7 +125,7 @@ module _ {S : Type 0} (m : Meaning S) (C : Constants) where
     pub epoch-is : s′ .epoch ≡ suc (s .epoch)
     pub specPools-is : s′ .specPools ≡ s .specPools EXCEPT![ l ]= newSpecPool s q
     pub uncommittedCmds-in : SetToSeqs (newSpecPool s q) (s′ .uncommittedCmds)
-    -- published: in any order
+    -- 12. published: in any order
     pub uncommittedCmds-order : ascends (s′ .uncommittedCmds) ≡ true
     pub unchanged : UNCHANGED (proposedCmds ∷ proposeRequests ∷ proposeResponses ∷ committedCmds ∷ commitMsgs ∷ specExecPrevCmd ∷ []) s s′
     pub also : UNCHANGED (commitsTaken ∷ content ∷ book ∷ given ∷ answers ∷ phase ∷ []) s s′

@@ -19,7 +19,7 @@ use Rattle.model.specs.Variables.{Constants, Model, Cardinality, superQuorum, 
 abbrev pub AppendOnce : List ℕ → ℕ → List ℕ
 AppendOnce seq cmd = IF mem cmd seq THEN seq ELSE Append seq cmd
 
--- LeaderChange puts what it recovered in ascending order.
+-- 12. What a new leader recovered waits in ascending order.
 abbrev pub ascends : List ℕ → Bool
 ascends [] = true
 ascends (x ∷ []) = true

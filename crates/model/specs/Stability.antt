@@ -35,15 +35,17 @@ module _ {S : Type 0} (m : Meaning S) (C : Constants) (s : Model S) where
   abbrev pub Stability : Type 0
   Stability = (cmd e : ℕ) → Accepted cmd e → (idx cmd ≢ 0) × (GetIdxInSeq (prevExecCmds cmd) (sameKey m s cmd) ≡ s .specExecPrevCmd cmd)
 
-  -- At every point: an accepted command that is committed follows the one recorded, with none of its key between;
+  -- Of an accepted command, at every point.
   pub record Stable (cmd : ℕ) : Type 0 where
+    -- committed, it follows the one recorded, with none of its key between
     pub committed : idx cmd ≢ 0 → GetIdxInSeq (prevExecCmds cmd) (sameKey m s cmd) ≡ s .specExecPrevCmd cmd
-    -- until then the last one of its key in the committed sequence is the one recorded,
+    -- until then the last of its key that is committed is the one recorded
     pub open-place : idx cmd ≡ 0 → GetIdxInSeq (s .committedCmds) (sameKey m s cmd) ≡ s .specExecPrevCmd cmd
-    -- and it waits, with none of its key ahead of it.
+    -- and it waits, with none of its key ahead of it
     pub next-in-turn : idx cmd ≡ 0 →
         (ahead : List ℕ) × (behind : List ℕ) × (s .uncommittedCmds ≡ ahead ++ cmd ∷ behind) × (GetIdxInSeq ahead (sameKey m s cmd) ≡ 0)
 
+-- so many commits, one after the other
 abbrev pub commits : ℕ → List Call
 commits zero = []
 commits (suc n) = Sync ∷ commits n
