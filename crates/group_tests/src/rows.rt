@@ -4,7 +4,7 @@ use base::*;
 use protocol::*;
 
 // A value written into a slot of the cards. The result is the value before.
-pub fn write(x: u32, y: u32) -> Record {
+pub(crate) fn write(x: u32, y: u32) -> Record {
     Record {
         book: 0,
         act: 1,
@@ -15,7 +15,7 @@ pub fn write(x: u32, y: u32) -> Record {
 }
 
 // Hours of a vehicle booked. The result is 1 where they were free, and else 0.
-pub fn booking(x: u32, y: u32, z: u32) -> Record {
+pub(crate) fn booking(x: u32, y: u32, z: u32) -> Record {
     Record {
         book: 1,
         act: 0,
@@ -25,7 +25,7 @@ pub fn booking(x: u32, y: u32, z: u32) -> Record {
     }
 }
 
-pub fn voters(digits: &[u32]) -> Voters {
+pub(crate) fn voters(digits: &[u32]) -> Voters {
     let mut voters = Voters::none();
     for digit in digits {
         voters = voters.with(*digit);
@@ -34,27 +34,27 @@ pub fn voters(digits: &[u32]) -> Voters {
 }
 
 // The rows of a table, by what each call tells.
-pub fn proposes(record: Record, job: u32) -> Row {
+pub(crate) fn proposes(record: Record, job: u32) -> Row {
     (Call::Propose(record), Outcome::Proposed { job })
 }
 
-pub fn receives(replica: u32, job: u32, what: Received) -> Row {
+pub(crate) fn receives(replica: u32, job: u32, what: Received) -> Row {
     (Call::Receive { replica, job }, Outcome::Received(what))
 }
 
-pub fn hears(replica: u32, job: u32, phase: Phase) -> Row {
+pub(crate) fn hears(replica: u32, job: u32, phase: Phase) -> Row {
     (Call::Hear { replica, job }, Outcome::Heard(phase))
 }
 
-pub fn syncs(job: u32, result: u32) -> Row {
+pub(crate) fn syncs(job: u32, result: u32) -> Row {
     (Call::Sync, Outcome::Synced(Synced { job, result }))
 }
 
-pub fn notices(replica: u32, job: u32, left: u32) -> Row {
+pub(crate) fn notices(replica: u32, job: u32, left: u32) -> Row {
     (Call::Notice { replica, job }, Outcome::Noticed { left })
 }
 
-pub fn changes(leader: u32, digits: &[u32], epoch: u32, recovered: u32) -> Row {
+pub(crate) fn changes(leader: u32, digits: &[u32], epoch: u32, recovered: u32) -> Row {
     let voters = voters(digits);
     (
         Call::Change { leader, voters },
@@ -62,7 +62,7 @@ pub fn changes(leader: u32, digits: &[u32], epoch: u32, recovered: u32) -> Row {
     )
 }
 
-pub fn queries(job: u32, phase: Phase, place: Option<u32>, given: Option<u32>) -> Row {
+pub(crate) fn queries(job: u32, phase: Phase, place: Option<u32>, given: Option<u32>) -> Row {
     let status = Status {
         phase,
         told: phase.told(),
@@ -72,6 +72,6 @@ pub fn queries(job: u32, phase: Phase, place: Option<u32>, given: Option<u32>) -
     (Call::Query { job }, Outcome::Status(status))
 }
 
-pub fn refuses(call: Call, number: u8) -> Row {
+pub(crate) fn refuses(call: Call, number: u8) -> Row {
     (call, Outcome::Refused(number))
 }
