@@ -5,11 +5,11 @@ use logs::*;
 use protocol::*;
 use std::test::*;
 
-pub type Shipped = Group<ShippedBooks, ShippedLog>;
+pub(crate) type Shipped = Group<ShippedBooks, ShippedLog>;
 
 // What a call came to.
 #[derive(Clone, Copy, PartialEq, Eq, Debug)]
-pub enum Outcome {
+pub(crate) enum Outcome {
     Proposed { job: u32 },
     Received(Received),
     Heard(Phase),
@@ -26,7 +26,7 @@ pub enum Outcome {
 }
 
 // A call, and what it should come to.
-pub type Row = (Call, Outcome);
+pub(crate) type Row = (Call, Outcome);
 
 pub(crate) fn shipped(
     rt: &LibcRuntime,
@@ -48,21 +48,20 @@ pub(crate) fn refused(fault: Fault) -> Outcome {
 }
 
 fn ask<B: Book, L: Log>(group: &mut Group<B, L>, call: Call) -> Result<Outcome, Fault> {
-    Ok(
-        match call {
-            Call::Propose(record) => Outcome::Proposed {
-                job: group.propose(record)?,
-            },
-            Call::Receive { replica, job } => Outcome::Received(group.receive(replica, job)?),
-            Call::Hear { replica, job } => Outcome::Heard(group.hear(replica, job)?),
-            Call::Sync => Outcome::Synced(group.sync()?),
-            Call::Notice { replica, job } => Outcome::Noticed {
-                left: group.notice(replica, job)?,
-            },
-            Call::Change { leader, voters } => Outcome::Changed(group.change(leader, voters)?),
-            Call::Query { job } => Outcome::Status(group.query(job)?),
+    let outcome = match call {
+        Call::Propose(record) => Outcome::Proposed {
+            job: group.propose(record)?,
         },
-    )
+        Call::Receive { replica, job } => Outcome::Received(group.receive(replica, job)?),
+        Call::Hear { replica, job } => Outcome::Heard(group.hear(replica, job)?),
+        Call::Sync => Outcome::Synced(group.sync()?),
+        Call::Notice { replica, job } => Outcome::Noticed {
+            left: group.notice(replica, job)?,
+        },
+        Call::Change { leader, voters } => Outcome::Changed(group.change(leader, voters)?),
+        Call::Query { job } => Outcome::Status(group.query(job)?),
+    };
+    Ok(outcome)
 }
 
 // Makes the call, and says what it came to.
@@ -82,7 +81,7 @@ fn statuses<B: Book, L: Log>(group: &Group<B, L>) -> [Option<Status>; 8] {
     all
 }
 
-// Makes one call after the other. A refused one leaves every job as it was.
+// Makes one call after the other. A refused one leaves the first eight jobs as they were.
 pub(crate) fn plays<B: Book, L: Log>(group: &mut Group<B, L>, rows: &[Row]) -> Result<(), Fail> {
     for (i, (call, expected)) in rows.iter().enumerate() {
         let before = statuses(group);
