@@ -1,122 +1,63 @@
-mod told;
+mod help;
 
-use base::Fault;
-use base::Record;
 use books::CardsBook;
 use books::PairBook;
 use books::ShippedBooks;
 use books::WindowsBook;
-use group::Group;
-use group::Unmade;
+use help::HELP;
 use logs::ArrayAsLog;
 use logs::ContinuedAsLog;
 use logs::ShippedLog;
-use protocol::Setting;
+use std::env;
 use std::error::AnyError;
-use told::phase_word;
-use told::received_word;
-use told::refused;
+use std::io::Read;
+use std::io::Write;
+use week::LONGEST_FILE;
+use week::run_week;
 
-// Three boxes led by box 0, and the fast way is on.
-const SETTING: Setting = Setting {
-    size: 3,
-    leader: 0,
-    fast: true,
-};
+// One byte more than the longest file that is run: with it, a file is known to be too long.
+const ENOUGH: usize = LONGEST_FILE + 1;
 
-// The hours from 8 to 10 of vehicle 3, to be booked.
-const JOB: Record = Record {
-    book: 1,
-    act: 0,
-    x: 3,
-    y: 8,
-    z: 10,
-};
-
-type Depot = Group<ShippedBooks, ShippedLog>;
-
-// Every box receives the job and answers.
-fn receive_all(rt: &impl Print, depot: &mut Depot, job: u32) -> Result<(), AnyError> {
-    for replica in 0..SETTING.size {
-        match depot.receive(replica, job) {
-            Ok(received) => {
-                let word = received_word(received);
-                println!(rt, "box {replica} receives job {job}: {word}")?;
-            }
-            Err(fault) => refused(rt, fault)?,
+// The bytes of standard input, and no more of them than tell whether the file is too long.
+fn read_file(rt: &LibcRuntime) -> Result<Vec<u8>, AnyError> {
+    let mut input = rt.stdin();
+    let mut file = vec![in rt.alloc(); 0u8; ENOUGH]?;
+    let mut used = 0;
+    for _ in 0..ENOUGH {
+        if used >= file.len() {
+            break;
         }
+        let n = input.read(&mut file[used..])?;
+        if n == 0 {
+            break;
+        }
+        used += n;
     }
+    file.truncate(used);
+    Ok(file)
+}
+
+// Runs the week file on standard input, and writes its report.
+fn report(rt: &LibcRuntime) -> Result<(), AnyError> {
+    let file = read_file(rt)?;
+    let report = run_week::<ShippedBooks, ShippedLog>(rt.alloc(), file.as_slice())?;
+    let mut output = rt.stdout();
+    output.write_all(report.as_slice())?;
+    output.flush()?;
     Ok(())
 }
 
-// The client hears every box's answer.
-fn hear_all(rt: &impl Print, depot: &mut Depot, job: u32) -> Result<(), AnyError> {
-    for replica in 0..SETTING.size {
-        match depot.hear(replica, job) {
-            Ok(phase) => {
-                let word = phase_word(phase);
-                println!(rt, "its client hears box {replica}: {word}")?;
-            }
-            Err(fault) => refused(rt, fault)?,
-        }
-    }
-    Ok(())
-}
-
-// The job goes to the log, and the client asks where it stands.
-fn log_and_ask(rt: &impl Print, depot: &mut Depot, job: u32) -> Result<(), AnyError> {
-    match depot.sync() {
-        Ok(synced) => {
-            let number = synced.job;
-            let result = synced.result;
-            println!(rt, "the leader logs job {number}, which gives {result}")?;
-        }
-        Err(fault) => refused(rt, fault)?,
-    }
-    match depot.query(job) {
-        Ok(status) => {
-            let word = phase_word(status.phase);
-            let told = status.told.unwrap_or(0);
-            let place = status.place.unwrap_or(0);
-            let given = status.given.unwrap_or(0);
-            println!(
-                rt,
-                "job {job} is {word}: told {told}, at place {place} of the log, given {given}"
-            )?;
-        }
-        Err(fault) => refused(rt, fault)?,
-    }
-    Ok(())
-}
-
-// Takes one job through a group of three boxes, and says what happens.
 fn run(rt: &LibcRuntime) -> Result<(), AnyError> {
-    let mut depot = match Depot::new(rt.alloc(), SETTING) {
-        Ok(depot) => depot,
-        Err(Unmade::Refused(fault)) => {
-            refused(rt, fault)?;
-            return Ok(());
-        }
-        Err(Unmade::NoMemory) => return Err("there is no memory for a group".into()),
+    let mut words = env::args(rt)?;
+    let _ = words.next();
+    let Some(word) = words.next() else {
+        return report(rt);
     };
-    let quorums = depot.quorums();
-    let fast = quorums.fast;
-    println!(
-        rt,
-        "three boxes, led by box 0; {fast} of them confirm a job"
-    )?;
-    match depot.propose(JOB) {
-        Ok(job) => {
-            println!(
-                rt,
-                "job {job} is proposed: book vehicle 3 from hour 8 to hour 10"
-            )?;
-            receive_all(rt, &mut depot, job)?;
-            hear_all(rt, &mut depot, job)?;
-            log_and_ask(rt, &mut depot, job)
-        }
-        Err(fault) => refused(rt, fault),
+    if word.as_str() == "help" {
+        rt.print(HELP)?;
+        return Ok(());
     }
+    Err("unknown argument: there is only help".into())
 }
 
 fn main(rt: LibcRuntime) -> Result<(), AnyError> {
