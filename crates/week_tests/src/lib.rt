@@ -45,6 +45,16 @@ fn other_calls(rt: LibcRuntime) -> Result<(), Fail> {
     )
 }
 
+// The fast way is off; a request after the notice is dropped; what the group refuses lets the run go on.
+#[test]
+fn slow_and_refused(rt: LibcRuntime) -> Result<(), Fail> {
+    gives(
+        &rt,
+        b"W\t3\t0\t0\nP\t0\t1\t7\t5\t0\nR\t0\t0\nH\t0\t0\nY\nN\t1\t0\nR\t1\t0\nR\t1\t0\nQ\t1\nL\t1\t0\nL\t3\t01\nY\t1\n",
+        b"1\tW\t3\t2\t1\n2\tP\t0\n3\tR\tn\n4\tH\ts\n5\tY\t0\t0\n6\tN\t0\n7\tR\td\n8\tR\t!\t7\n9\tQ\t!\t6\n10\tL\t!\t9\n11\tL\t!\t2\n12\t#\t13\t0\n",
+    )
+}
+
 // What ends a run; nothing after it is looked at.
 #[test]
 fn ends(rt: LibcRuntime) -> Result<(), Fail> {
