@@ -1,3 +1,5 @@
+#![tactic(auto)]
+
 ghost use Rattle.std.specs.Prelude.{◌≡◌, slice_index_or};
 ghost use Rattle.terms.specs.declared.answers.Answer.TheVariants.{Empty};
 ghost use Rattle.protocol.specs.Answers.{agrees, heard, declined, agreeing, declining, decide, by_told};

@@ -1,3 +1,5 @@
+#![tactic(auto)]
+
 mod group;
 mod job;
 mod job_set;

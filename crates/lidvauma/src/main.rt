@@ -1,3 +1,5 @@
+#![tactic(auto)]
+
 mod help;
 
 use anyhow::anyhow;

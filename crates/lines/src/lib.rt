@@ -1,4 +1,6 @@
 // Lines of text that carry steps: read, checked and written.
+#![tactic(auto)]
+
 mod body;
 mod check;
 mod fault;

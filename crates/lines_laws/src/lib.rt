@@ -1,4 +1,6 @@
 // What the reader and the writer of lines are to each other.
+#![tactic(auto)]
+
 mod round;
 mod theorem;
 

@@ -1,3 +1,5 @@
+#![tactic(auto)]
+
 mod array;
 mod continued;
 mod line;

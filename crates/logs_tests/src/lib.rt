@@ -1,3 +1,5 @@
+#![tactic(auto)]
+
 use logs::{ArrayLog, Continued, LineLog, Log, ShippedLog};
 use std::process::Abort;
 use std::test::Fail;

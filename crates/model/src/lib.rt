@@ -1,3 +1,5 @@
+#![tactic(auto)]
+
 mod theorem;
 
 pub use theorem::{follows_model, model_cases, stability, type_ok};

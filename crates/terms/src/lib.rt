@@ -1,4 +1,6 @@
 // The words of the protocol: answers and phases, calls and what they tell, sets of voters.
+#![tactic(auto)]
+
 mod answers;
 mod calls;
 mod voters;

@@ -1,4 +1,6 @@
 // The run of a whole file of lines, and its report.
+#![tactic(auto)]
+
 mod calls;
 mod cut;
 mod event;

@@ -1,3 +1,5 @@
+#![tactic(auto)]
+
 use base::{Fault, Layer, Refusal};
 use books::ShippedBooks;
 use logs::ShippedLog;
