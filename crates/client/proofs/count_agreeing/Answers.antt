@@ -9,7 +9,7 @@ use Rattle.client.proofs.count_agreeing.Goals as goal
 pub loop-b-preserved : goal.loop-b-preserved
 loop-b-preserved c =
     let more = tally_more c.loop-b.b (λ b. agrees c.args.epoch (heard (get_or c.args.answers b Empty))) in
-    let said = c.agrees-in.ensures in
+    let said = c.agrees_in.ensures in
     (grind arith, grind arith)
 
 -- src/lib.rt

@@ -10,5 +10,5 @@ loop-b-preserved c = let one = c.confirm-phase.ensures in let before = c.loop-b.
 -- src/lib.rt
 pub returns : goal.returns
 returns c =
-    let all = c.loop-b.invariant ∙ told c.args.answers (omega arith) c.args.size c.args.size c.loop-b.b c.if-count-declining-blocking.phase (omega arith) in
+    let all = c.loop-b.invariant ∙ told c.args.answers (omega arith) c.args.size c.args.size c.loop-b.b c.if-count_declining-blocking.phase (omega arith) in
     grind (arith, nat_tests)

@@ -13,5 +13,5 @@ loop-r-preserved c =
     let boxes = c.args.boxes.now in
     let i = c.loop-r.r in
     let more = tally_more i (λ r. votes c.args.voters r && has (box_at boxes r).pool c.args.job) in
-    let here = c.votes-for.ensures ∙ ap (λ (b : Replica). votes c.args.voters i && has b.pool c.args.job) (read_any boxes i _ no_box c.loop-r-test.true) in
+    let here = c.votes_for.ensures ∙ ap (λ (b : Replica). votes c.args.voters i && has b.pool c.args.job) (read_any boxes i _ no_box c.loop-r-test.true) in
     (grind arith, grind arith)

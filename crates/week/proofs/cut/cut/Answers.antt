@@ -10,8 +10,8 @@ returns-then-b-eq10 c =
     let xs = c.args.bytes.now in
     let i = c.loop-i.i in
     record {
-      line = c.split-at.ensures.front ∙ (take_more xs i 0 c.loop-i-test.true ∙ (ap (λ l. take i xs ++ l) (sym (line_stop xs i c.loop-i-test.true c.if-b-eq10.true)) ∙ c.loop-i.invariant.0));
-      rest = c.split-at.ensures.back ∙ (sym (after_stop xs i c.loop-i-test.true c.if-b-eq10.true) ∙ c.loop-i.invariant.1);
+      line = c.split_at.ensures.front ∙ (take_more xs i 0 c.loop-i-test.true ∙ (ap (λ l. take i xs ++ l) (sym (line_stop xs i c.loop-i-test.true c.if-b-eq10.true)) ∙ c.loop-i.invariant.0));
+      rest = c.split_at.ensures.back ∙ (sym (after_stop xs i c.loop-i-test.true c.if-b-eq10.true) ∙ c.loop-i.invariant.1);
     }
 
 pub loop-i-preserved : goal.loop-i-preserved
@@ -31,6 +31,6 @@ returns c =
     let i = c.loop-i.i in
     let all = joined (take i xs) _ _ (at_drop_all first_line xs i c.loop-i-test.false) c.loop-i.invariant.0 in
     record {
-      line = c.split-at-2.ensures.front ∙ (take_all (length xs) xs (omega arith) ∙ (sym (take_all i xs c.loop-i-test.false) ∙ all));
-      rest = c.split-at-2.ensures.back ∙ (drop_all (length xs) xs (omega arith) ∙ (sym (at_drop_all after_first xs i c.loop-i-test.false) ∙ c.loop-i.invariant.1));
+      line = c.split_at-2.ensures.front ∙ (take_all (length xs) xs (omega arith) ∙ (sym (take_all i xs c.loop-i-test.false) ∙ all));
+      rest = c.split_at-2.ensures.back ∙ (drop_all (length xs) xs (omega arith) ∙ (sym (at_drop_all after_first xs i c.loop-i-test.false) ∙ c.loop-i.invariant.1));
     }

@@ -9,7 +9,7 @@ returns-then-ended g c =
     let xs = c.loop-rest.rest.now in
     stops g.B.Book.meaning c.loop-rest.number s xs c.cut.result.0.now c.cut.result.1.now _ _ _ c.follow-event.result
     (filled_by xs c.loop-rest-test.ensures)
-    c.cut.ensures.line c.cut.ensures.rest c.follow-event.ensures.value c.in-ok-add.ensures c.loop-rest.invariant.1
+    c.cut.ensures.line c.cut.ensures.rest c.follow-event.ensures.value c.in_ok-add.ensures c.loop-rest.invariant.1
     (sym c.if-ended.ensures)
 
 pub loop-rest-smaller : goal.loop-rest-smaller
@@ -25,7 +25,7 @@ loop-rest-preserved g c =
       omega (arith, less, c.loop-rest.invariant.0),
       goes_on g.B.Book.meaning c.loop-rest.number s xs c.cut.result.0.now c.cut.result.1.now _ _ _ c.follow-event.result
           (filled_by xs c.loop-rest-test.ensures)
-          c.cut.ensures.line c.cut.ensures.rest c.follow-event.ensures.value c.in-ok-add.ensures c.loop-rest.invariant.1 _
+          c.cut.ensures.line c.cut.ensures.rest c.follow-event.ensures.value c.in_ok-add.ensures c.loop-rest.invariant.1 _
           (sym c.if-ended.ensures)
           c.follow-event.ensures.state,
     )

@@ -12,20 +12,20 @@ use Rattle.group.proofs.Changing.{settled_ok, settled_err, seats, change_moves, 
 use Rattle.group.proofs.group.Group.change.Goals as goal
 
 -- src/group/change.rt
-pub returns-in-err-allows : goal.returns-in-err-allows
-returns-in-err-allows g c =
+pub returns-in_err-allows : goal.returns-in_err-allows
+returns-in_err-allows g c =
     let s = view g.B.Book.state g.L.Log.entries g.L.Log.limit c.args.self.now in
     let l = c.args.leader in
     let v = c.args.voters in
-    let why = settled_err (change_refusal l v s) c.in-err-allows.field-0.0 c.in-err-allows.ensures in
+    let why = settled_err (change_refusal l v s) c.in_err-allows.field-0.0 c.in_err-allows.ensures in
     record {
       state = step_refused (change_refusal l v s) s (change l v s) why;
       outcome = told_on c.from-residual.result (change_refusal l v s) (changed v s) c.from-residual.ensures.1 why;
     }
 
 -- src/group/change.rt
-pub invariant-of-self : goal.invariant-of-self
-invariant-of-self g c =
+pub invariant_of-self : goal.invariant_of-self
+invariant_of-self g c =
     let self = c.args.self.now in
     let n = self.jobs.len in
     let boxes_few = self.few_boxes in
@@ -46,11 +46,11 @@ returns g c =
     let ps = parts g.B.Book.state g.L.Log.entries g.L.Log.limit self in
     let s = seen ps in
     let kept = c.recover-kept.result in
-    let p = c.with-pool.result in
-    let free = settled_ok (change_refusal l v s) c.in-ok-allows.ensures in
+    let p = c.with_pool.result in
+    let free = settled_ok (change_refusal l v s) c.in_ok-allows.ensures in
     let in_group = (seats ps l v free).0 in
     let old : c.index-at.result.now ≡ box_at boxes l = c.index-at.ensures ∙ read_any boxes l c.index-at.result.now no_box in_group in
-    let new = subst (λ (b : Replica). Has p (has b.requests) (has b.notices) (has b.taken) (has kept)) old c.with-pool.ensures in
+    let new = subst (λ (b : Replica). Has p (has b.requests) (has b.notices) (has b.taken) (has kept)) old c.with_pool.ensures in
     let number : c.len.result ≡ length jobs = c.len.ensures ∙ self.jobs.ok.0 in
     let number₂ : c.len-2.result ≡ length jobs = c.len-2.ensures ∙ self.jobs.ok.0 in
     let line : c.refill.new.self.jobs.items ≡ ascending (length jobs) (has kept) = c.refill.ensures ∙ ap (λ n. ascending n (has kept)) number in

@@ -17,11 +17,11 @@ use Rattle.group.proofs.Hearing.{hear_moves, phase_heard}
 use Rattle.group.proofs.group.Group.hear.Goals as goal
 
 -- src/group/hear.rt
-pub returns-in-err-named : goal.returns-in-err-named
-returns-in-err-named g c =
+pub returns-in_err-named : goal.returns-in_err-named
+returns-in_err-named g c =
     let self = c.args.self.now in
     let s = view g.B.Book.state g.L.Log.entries g.L.Log.limit self in
-    let why = c.in-err-named.ensures (in_transit (answer_of (job_at self.jobs.items c.args.job) c.args.replica)) in
+    let why = c.in_err-named.ensures (in_transit (answer_of (job_at self.jobs.items c.args.job) c.args.replica)) in
     record {
       state = step_refused (hear_refusal c.args.replica c.args.job s) s (hear c.args.replica c.args.job s) why;
       outcome = told_on c.from-residual.result (hear_refusal c.args.replica c.args.job s) (phase_after s c.args.replica c.args.job) c.from-residual.ensures.1 why;
@@ -35,8 +35,8 @@ sent : (a : Answer) (x : Reply) → transit_of a ≡ Some x → a ≡ Transit x
 sent a x h = grind arith
 
 -- src/group/hear.rt
-pub returns-in-default : goal.returns-in-default
-returns-in-default g c =
+pub returns-in_default : goal.returns-in_default
+returns-in_default g c =
     let self = c.args.self.now in
     let r = c.args.replica in
     let j = c.args.job in
@@ -44,9 +44,9 @@ returns-in-default g c =
     let jobs = self.jobs.items in
     let ps = parts g.B.Book.state g.L.Log.entries g.L.Log.limit self in
     let s = seen ps in
-    let names = c.in-ok-named.ensures in
+    let names = c.in_ok-named.ensures in
     let old : c.index-it.result.now ≡ job_at jobs j = c.index-it.ensures ∙ read_any jobs j c.index-it.result.now no_job names.proposed in
-    let none : transit_of (answer_of (job_at jobs j) r) ≡ None = ap (λ (b : Job). transit_of (answer_of b r)) (sym old) ∙ sym c.in_transit.ensures ∙ c.in-default.is in
+    let none : transit_of (answer_of (job_at jobs j) r) ≡ None = ap (λ (b : Job). transit_of (answer_of b r)) (sym old) ∙ sym c.in_transit.ensures ∙ c.in_default.is in
     let why = not_under_way ps r j (in_transit (answer_of (job_at jobs j) r)) names.in_group names.proposed (not_sent (answer_of (job_at jobs j) r) none) in
     record {
       state = step_refused (hear_refusal r j s) s (hear r j s) why;
@@ -65,7 +65,7 @@ returns g c =
     let jobs = self.jobs.items in
     let ps = parts g.B.Book.state g.L.Log.entries g.L.Log.limit self in
     let s = seen ps in
-    let names = c.in-ok-named.ensures in
+    let names = c.in_ok-named.ensures in
     let old : c.index-it.result.now ≡ job_at jobs j = c.index-it.ensures ∙ read_any jobs j c.index-it.result.now no_job names.proposed in
     let some : transit_of (answer_of (job_at jobs j) r) ≡ Some x = ap (λ (b : Job). transit_of (answer_of b r)) (sym old) ∙ sym c.in_transit.ensures ∙ c.in-Some.is in
     let transit = sent (answer_of (job_at jobs j) r) x some in

@@ -23,14 +23,14 @@ allowed : {S : Type 0} (o : Option ℕ) (s : State S) → o ≡ None → room_re
 allowed o s e room = rw e room
 
 -- src/group/propose.rt
-pub invariant-of-self : goal.invariant-of-self
-invariant-of-self g c =
+pub invariant_of-self : goal.invariant_of-self
+invariant_of-self g c =
     let self = c.args.self.now in
     let boxes_few = self.few_boxes in
     let jobs_few = self.few_jobs in
     let big = self.roomy in
-    let len = c.push-reserved.ensures.len in
-    let cap = c.push-reserved.ensures.capacity in
+    let len = c.push_reserved.ensures.len in
+    let cap = c.push_reserved.ensures.capacity in
     let least = c.min.ensures in
     let left = c.if-job-min.false in
     let at = c.len-job.ensures in
@@ -51,11 +51,11 @@ returns g c =
     let most : c.min.result ≡ min limit 256 = c.min.ensures ∙ ap (λ n. min n 256) c.capacity.ensures in
     let left : c.len-job.result < c.min.result = c.if-job-min.false in
     let room = has_room ps (subst (λ n. length jobs < n) most (subst (λ n. n < c.min.result) number left)) in
-    let free = allowed misfit s (fits misfit c.in-ok-check.ensures) room in
-    let sent₀ = subst (λ n. AllBecame (Requested n) c.deref-mut.result.now c.request-all.new.boxes) number c.request-all.ensures in
-    let sent = subst (λ (b : List Replica). AllBecame (Requested (length jobs)) b c.request-all.new.boxes) c.deref-mut.ensures.value sent₀ in
-    let moves = propose_moves ps c.args.record c.new.result c.request-all.new.boxes c.new.ensures sent in
-    let refills = with_items_is self.boxes c.request-all.new.boxes (sent.many ∙ sym self.boxes.ok.0) in
-    let pushed : seen (held ps ps.waiting c.push-reserved.new.self.items (with_items self.boxes c.request-all.new.boxes).items) ≡ propose c.args.record s =
-    (λ i. seen (held ps ps.waiting (c.push-reserved.ensures.items i) (refills i))) ∙ moves in
+    let free = allowed misfit s (fits misfit c.in_ok-check.ensures) room in
+    let sent₀ = subst (λ n. AllBecame (Requested n) c.deref-mut.result.now c.request_all.new.boxes) number c.request_all.ensures in
+    let sent = subst (λ (b : List Replica). AllBecame (Requested (length jobs)) b c.request_all.new.boxes) c.deref-mut.ensures.value sent₀ in
+    let moves = propose_moves ps c.args.record c.new.result c.request_all.new.boxes c.new.ensures sent in
+    let refills = with_items_is self.boxes c.request_all.new.boxes (sent.many ∙ sym self.boxes.ok.0) in
+    let pushed : seen (held ps ps.waiting c.push_reserved.new.self.items (with_items self.boxes c.request_all.new.boxes).items) ≡ propose c.args.record s =
+    (λ i. seen (held ps ps.waiting (c.push_reserved.ensures.items i) (refills i))) ∙ moves in
     record { state = step_made (propose_refusal misfit s) s free pushed; outcome = told (propose_refusal misfit s) free number }

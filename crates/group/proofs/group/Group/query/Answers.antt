@@ -29,5 +29,5 @@ returns g c =
     record {
       promise = reached_kept g.B.Book.meaning g.met.B.Book.lawful limit s;
       outcome = told (query_refusal j s) (may_ask ps j proposed)
-          (status_seen ps j c.index-it.result.now c.told.result c.place-in.result was c.told.ensures c.place-in.ensures);
+          (status_seen ps j c.index-it.result.now c.told.result c.place_in.result was c.told.ensures c.place_in.ensures);
     }

@@ -8,4 +8,4 @@ use Rattle.group.proofs.group.Group.recover.Goals as goal
 pub loop-c-preserved : goal.loop-c-preserved
 loop-c-preserved g c = λ d.
     let s = view g.B.Book.state g.L.Log.entries g.L.Log.limit c.args.self.now in
-    one_more (recovered s c.args.voters) c.loop-c.c d (has c.put-set.result d) (has c.loop-c.set d) c.is-recovered.result (c.put-set.ensures d) (c.loop-c.invariant d) c.is-recovered.ensures
+    one_more (recovered s c.args.voters) c.loop-c.c d (has c.put-set.result d) (has c.loop-c.set d) c.is_recovered.result (c.put-set.ensures d) (c.loop-c.invariant d) c.is_recovered.ensures

@@ -36,19 +36,19 @@ returns g c =
     let line : waiting ≡ j ∷ rest = head_first waiting j at_head in
     let many = self.jobs.ok.0 in
     let below : j < length jobs = let h = head_below self.jobs.len waiting j at_head self.known in omega arith in
-    let took = log_took limit log j c.in-ok-add.ensures.value in
+    let took = log_took limit log j c.in_ok-add.ensures.value in
     let grown : g.L.Log.entries c.add.new.self ≡ log ++ j ∷ [] = c.add.ensures.after ∙ took.1 in
     let was : c.index-it.result.now ≡ job_at jobs j = c.index-it.ensures ∙ read_any jobs j c.index-it.result.now no_job below in
     let result : c.apply-result.result ≡ told_result m s j = c.apply-result.ensures.value ∙ ap (λ (b : Job). m.result book b.«record») was in
     let moved_on : g.B.Book.state c.apply-result.new.self ≡ m.after book (job_at jobs j).«record» = c.apply-result.ensures.after ∙ ap (λ (b : Job). m.after book b.«record») was in
     let new₀ = subst (λ (b : Job). Holds q b.«record» (answer_of b) b.phase (Some c.apply-result.result)) was c.logged.ensures in
     let new = subst (λ n. Holds q (job_at jobs j).«record» (answer_of (job_at jobs j)) (job_at jobs j).phase (Some n)) result new₀ in
-    let sent = subst (λ (b : List Replica). AllBecame (Notified j) b c.notify-all.new.boxes) c.deref-mut.ensures.value c.notify-all.ensures in
-    let refills = with_items_is self.boxes c.notify-all.new.boxes (sent.many ∙ sym self.boxes.ok.0) in
+    let sent = subst (λ (b : List Replica). AllBecame (Notified j) b c.notify_all.new.boxes) c.deref-mut.ensures.value c.notify_all.ensures in
+    let refills = with_items_is self.boxes c.notify_all.new.boxes (sent.many ∙ sym self.boxes.ok.0) in
     let free = may_sync m ps j rest line took.0 in
-    let moves = sync_moves m ps j rest q c.notify-all.new.boxes below new sent in
+    let moves = sync_moves m ps j rest q c.notify_all.new.boxes below new sent in
     let after : List ℕ → List ℕ → g.B.Book.State → List Replica → Parts g.B.Book.State = λ xs ys b bs. record { fast = self.fast; capacity = limit; leader = self.leader; epoch = self.epoch; waiting = xs; log = ys; book = b; jobs = set jobs j q; boxes = bs } in
-    let all : seen (after c.advance.new.self.jobs.items (g.L.Log.entries c.add.new.self) (g.B.Book.state c.apply-result.new.self) (with_items self.boxes c.notify-all.new.boxes).items) ≡ log_job m j rest s =
+    let all : seen (after c.advance.new.self.jobs.items (g.L.Log.entries c.add.new.self) (g.B.Book.state c.apply-result.new.self) (with_items self.boxes c.notify_all.new.boxes).items) ≡ log_job m j rest s =
     (λ i. seen (after (c.advance.ensures i) (grown i) (moved_on i) (refills i))) ∙ moves in
     record {
       state = step_made (sync_refusal waiting s) s free (all ∙ sym (ap (λ xs. sync m xs s) line));

@@ -19,8 +19,8 @@ joins_below : (n c : ℕ) (b : Bool) → c < n → all_below n (cond b (c ∷ []
 joins_below n c b h = grind (arith, nat_tests)
 
 -- src/group/receive.rt
-pub invariant-of-self : goal.invariant-of-self
-invariant-of-self g c =
+pub invariant_of-self : goal.invariant_of-self
+invariant_of-self g c =
     let self = c.args.self.now in
     let waiting = self.waiting.jobs.items in
     let n = self.jobs.len in
@@ -55,5 +55,5 @@ returns g c =
     let job_new = subst (λ (x : Reply). Holds q (job_at jobs j).«record» (put (answer_of (job_at jobs j)) r (Transit x)) (job_at jobs j).phase (job_at jobs j).given) c.reply-reply.ensures job_new₀ in
     record {
       state = take_moves m ps r j c.join.new.self.jobs.items p q c.requires.in_group c.requires.proposed c.join.ensures box_new job_new;
-      outcome = c.verdict-of.ensures ∙ ap verdict c.reply-reply.ensures;
+      outcome = c.verdict_of.ensures ∙ ap verdict c.reply-reply.ensures;
     }

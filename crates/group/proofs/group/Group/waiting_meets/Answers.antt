@@ -11,7 +11,7 @@ use Rattle.group.proofs.group.Group.waiting_meets.Goals as goal
 pub loop-i-preserved : goal.loop-i-preserved
 loop-i-preserved g c =
     let s = view g.B.Book.state g.L.Log.entries g.L.Log.limit c.args.self.now in
-    let waiting = c.as-slice-waiting.result.now in
+    let waiting = c.as_slice-waiting.result.now in
     let more = any_of_more (meets g.B.Book.meaning s.jobs.job c.args.c) waiting c.loop-i.i c.loop-i-test.true in
     elim c.if-meets.branch [
       | then-meets w ↦ any_hit _ _ _ more c.meets.ensures w.if-meets.true w.met-is
@@ -22,5 +22,5 @@ loop-i-preserved g c =
 pub returns : goal.returns
 returns g c =
     let s = view g.B.Book.state g.L.Log.entries g.L.Log.limit c.args.self.now in
-    let waiting = c.as-slice-waiting.result.now in
-    c.loop-i.invariant ∙ ap (any_of (meets g.B.Book.meaning s.jobs.job c.args.c)) (take_all c.loop-i.i waiting c.loop-i-test.false ∙ c.as-slice-waiting.ensures)
+    let waiting = c.as_slice-waiting.result.now in
+    c.loop-i.invariant ∙ ap (any_of (meets g.B.Book.meaning s.jobs.job c.args.c)) (take_all c.loop-i.i waiting c.loop-i-test.false ∙ c.as_slice-waiting.ensures)

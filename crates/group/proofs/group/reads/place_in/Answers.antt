@@ -3,12 +3,12 @@ use Rattle.group.proofs.Logged.{found, not_here, place_none}
 use Rattle.group.proofs.group.reads.place_in.Goals as goal
 
 -- src/group/reads.rt
-pub returns-then-stands-at : goal.returns-then-stands-at
-returns-then-stands-at g c =
+pub returns-then-stands_at : goal.returns-then-stands_at
+returns-then-stands_at g c =
     let xs = g.L.Log.entries c.args.log.now in
     let len = c.length-k-end.ensures in
     let within : c.loop-k.k < length xs = omega arith in
-    found xs c.loop-k.k c.args.job within (sym c.stands-at.ensures ∙ c.if-stands-at.true) ∙ sym c.loop-k.invariant
+    found xs c.loop-k.k c.args.job within (sym c.stands_at.ensures ∙ c.if-stands_at.true) ∙ sym c.loop-k.invariant
 
 -- src/group/reads.rt
 pub loop-k-preserved : goal.loop-k-preserved
@@ -16,7 +16,7 @@ loop-k-preserved g c =
     let xs = g.L.Log.entries c.args.log.now in
     let len = c.length-k-end.ensures in
     let within : c.loop-k.k < length xs = omega arith in
-    c.loop-k.invariant ∙ not_here xs c.loop-k.k c.args.job within (sym c.stands-at.ensures ∙ c.if-stands-at.false)
+    c.loop-k.invariant ∙ not_here xs c.loop-k.k c.args.job within (sym c.stands_at.ensures ∙ c.if-stands_at.false)
 
 -- src/group/reads.rt
 pub returns : goal.returns

@@ -4,8 +4,8 @@ use Rattle.group.proofs.Queues.{room_for, joined_once, joined_below}
 use Rattle.group.proofs.waiting.WaitingList.join.Goals as goal
 
 -- src/waiting.rt
-pub push-reserved-requires : goal.push-reserved-requires
-push-reserved-requires c =
+pub push_reserved-requires : goal.push_reserved-requires
+push_reserved-requires c =
     let self = c.args.self.now in
     let new : mem c.args.job self.jobs.items ≡ false = sym c.has.ensures ∙ c.if-not-has.true in
     let room = room_for self.jobs.items c.args.job self.once self.small new c.requires in
@@ -14,13 +14,13 @@ push-reserved-requires c =
     omega arith
 
 -- src/waiting.rt
-pub invariant-of-self : goal.invariant-of-self
-invariant-of-self c =
+pub invariant_of-self : goal.invariant_of-self
+invariant_of-self c =
     let self = c.args.self.now in
     let new : mem c.args.job self.jobs.items ≡ false = sym c.has.ensures ∙ c.if-not-has.true in
-    let grown = sym c.push-reserved.ensures.items in
+    let grown = sym c.push_reserved.ensures.items in
     let big = self.roomy in
-    let cap = c.push-reserved.ensures.capacity in (
+    let cap = c.push_reserved.ensures.capacity in (
       subst (λ xs. distinct xs ≡ true) grown (joined_once self.jobs.items c.args.job self.once self.small new c.requires),
       (subst (λ xs. all_below 256 xs ≡ true) grown (joined_below self.jobs.items c.args.job self.once self.small new c.requires), (omega arith, tt)),
     )

@@ -6,8 +6,8 @@ use Rattle.group.proofs.Queues.{below_ascending}
 use Rattle.group.proofs.waiting.WaitingList.refill.Goals as goal
 
 -- src/waiting.rt
-pub invariant-of-self : goal.invariant-of-self
-invariant-of-self c =
+pub invariant_of-self : goal.invariant_of-self
+invariant_of-self c =
     let filled = sym c.fill.ensures.items in
     let big = c.args.self.now.roomy in
     let cap = c.fill.ensures.capacity in

@@ -5,8 +5,8 @@ use Rattle.logs.proofs.Adding.{room_outcome, room_added}
 use Rattle.logs.proofs.Reading.{one_more, still_written, still_fit}
 use Rattle.logs.proofs.line.log.LineLogLog.add.Goals as goal
 
-pub invariant-of-self : goal.invariant-of-self
-invariant-of-self c =
+pub invariant_of-self : goal.invariant_of-self
+invariant_of-self c =
     let s = c.args.self.now in
     let was = content s.text in
     let is = content c.line.new.self in
