@@ -33,7 +33,7 @@ invariant_of-self g c =
     let big = self.roomy in
     let many = c.len.ensures in
     let line = below_ascending c.len.result n (has c.recover-kept.result) (omega arith) in
-    (boxes_few, (jobs_few, (big, (subst (λ xs. all_below n xs ≡ true) (sym c.refill.ensures) line, tt))))
+    record { few_boxes = boxes_few; few_jobs = jobs_few; roomy = big; known = subst (λ xs. all_below n xs ≡ true) (sym c.refill.ensures) line }
 
 -- src/group/change.rt
 pub returns : goal.returns

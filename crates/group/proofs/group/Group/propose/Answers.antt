@@ -34,7 +34,7 @@ invariant_of-self g c =
     let least = c.min.ensures in
     let left = c.if-job-min.false in
     let at = c.len-job.ensures in
-    (boxes_few, (omega arith, (omega arith, (below_more _ _ self.waiting.jobs.items (omega arith) self.known, tt))))
+    record { few_boxes = boxes_few; few_jobs = omega arith; roomy = omega arith; known = below_more _ _ self.waiting.jobs.items (omega arith) self.known }
 
 -- src/group/propose.rt
 pub returns : goal.returns

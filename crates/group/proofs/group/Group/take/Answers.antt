@@ -31,7 +31,7 @@ invariant_of-self g c =
     let proposed = c.requires.proposed in
     let new : c.args.job < n = omega arith in
     let line = below_append n waiting (cond (eqb c.args.replica self.leader && not (mem c.args.job waiting)) (c.args.job ∷ []) []) self.known (joins_below n c.args.job (eqb c.args.replica self.leader && not (mem c.args.job waiting)) new) in
-    (boxes_few, (jobs_few, (big, (subst (λ xs. all_below n xs ≡ true) (sym c.join.ensures) line, tt))))
+    record { few_boxes = boxes_few; few_jobs = jobs_few; roomy = big; known = subst (λ xs. all_below n xs ≡ true) (sym c.join.ensures) line }
 
 -- src/group/receive.rt
 pub returns : goal.returns

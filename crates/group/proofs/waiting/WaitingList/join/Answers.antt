@@ -20,7 +20,9 @@ invariant_of-self c =
     let new : mem c.args.job self.jobs.items ≡ false = sym c.has.ensures ∙ c.if-not-has.true in
     let grown = sym c.push_reserved.ensures.items in
     let big = self.roomy in
-    let cap = c.push_reserved.ensures.capacity in (
-      subst (λ xs. distinct xs ≡ true) grown (joined_once self.jobs.items c.args.job self.once self.small new c.requires),
-      (subst (λ xs. all_below 256 xs ≡ true) grown (joined_below self.jobs.items c.args.job self.once self.small new c.requires), (omega arith, tt)),
-    )
+    let cap = c.push_reserved.ensures.capacity in
+    record {
+      once = subst (λ xs. distinct xs ≡ true) grown (joined_once self.jobs.items c.args.job self.once self.small new c.requires);
+      small = subst (λ xs. all_below 256 xs ≡ true) grown (joined_below self.jobs.items c.args.job self.once self.small new c.requires);
+      roomy = omega arith;
+    }

@@ -11,7 +11,9 @@ invariant_of-self c =
     let filled = sym c.fill.ensures.items in
     let big = c.args.self.now.roomy in
     let cap = c.fill.ensures.capacity in
-    let few = c.requires in (
-      subst (λ xs. distinct xs ≡ true) filled (distinct_ascending c.args.count (has c.args.set.now)),
-      (subst (λ xs. all_below 256 xs ≡ true) filled (below_ascending c.args.count 256 (has c.args.set.now) few), (omega arith, tt)),
-    )
+    let few = c.requires in
+    record {
+      once = subst (λ xs. distinct xs ≡ true) filled (distinct_ascending c.args.count (has c.args.set.now));
+      small = subst (λ xs. all_below 256 xs ≡ true) filled (below_ascending c.args.count 256 (has c.args.set.now) few);
+      roomy = omega arith;
+    }

@@ -15,7 +15,7 @@ invariant_of-self c =
     let l = ap length more ∙ length_push (numbers_in was) n in
     let written = still_written was is n s.written s.fit (omega arith) c.line.ensures.content in
     let fit = still_fit was is n s.written s.fit (omega arith) c.line.ensures.content in
-    (omega arith, (omega arith, (omega arith, (written, (fit, tt)))))
+    record { counted = omega arith; room = omega arith; short = omega arith; written = written; fit = fit }
 
 pub returns : goal.returns
 returns c =
