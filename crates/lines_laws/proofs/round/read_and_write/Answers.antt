@@ -6,7 +6,7 @@ use Rattle.lines_laws.proofs.round.read_and_write.Goals as goal
 
 pub returns-in_err-read_line : goal.returns-in_err-read_line
 returns-in_err-read_line c =
-    let p = err_from_is_err_and c.from-residual.result c.from-residual.ensures.1 in
+    let p = err_from_is_err_and c.from_residual.result c.from_residual.ensures.1 in
     record {
       told = rw (p.1, p.2) (ap (λ r. copied r c.args.line.now (length c.args.out.now)) c.in_err-read_line.ensures);
       buffer = rw p.1 refl;

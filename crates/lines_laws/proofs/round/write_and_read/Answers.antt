@@ -6,7 +6,7 @@ use Rattle.lines_laws.proofs.round.write_and_read.Goals as goal
 
 pub returns-in_err-n : goal.returns-in_err-n
 returns-in_err-n c =
-    let p = err_from_is_err_and c.from-residual.result c.from-residual.ensures.1 in
+    let p = err_from_is_err_and c.from_residual.result c.from_residual.ensures.1 in
     λ t. rw (p.1, p.2) (echo_refused c.args.step (length c.args.out.now) c.in_err-n.field-0.0 c.in_err-n.ensures.told)
 
 pub slice_bounds-read_line-end : goal.slice_bounds-read_line-end

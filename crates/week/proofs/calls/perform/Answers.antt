@@ -11,7 +11,7 @@ pub returns-in_err-propose : goal.returns-in_err-propose
 returns-in_err-propose g c =
     let m = g.B.Book.meaning in
     let s = view g.B.Book.state g.L.Log.entries g.L.Log.limit c.args.group.now in
-    let p = err_from_is_err_and c.from-residual.result c.from-residual.ensures.1 in
+    let p = err_from_is_err_and c.from_residual.result c.from_residual.ensures.1 in
     record {
       state = goes m s c.args.call (Propose c.in-Propose.record) c.in-Propose.is _ c.propose.ensures.state;
       value = refuses m s c.args.call (Propose c.in-Propose.record) c.in-Propose.is s.jobs.count _ _ (p.1 ∙ ap (λ e. Err e) p.2) c.in_err-propose.ensures.outcome;
@@ -30,7 +30,7 @@ pub returns-in_err-receive : goal.returns-in_err-receive
 returns-in_err-receive g c =
     let m = g.B.Book.meaning in
     let s = view g.B.Book.state g.L.Log.entries g.L.Log.limit c.args.group.now in
-    let p = err_from_is_err_and c.from-residual-in_err-receive.result c.from-residual-in_err-receive.ensures.1 in
+    let p = err_from_is_err_and c.from_residual-in_err-receive.result c.from_residual-in_err-receive.ensures.1 in
     record {
       state = goes m s c.args.call (Receive c.in-Receive.replica c.in-Receive.job) c.in-Receive.is _ c.receive.ensures.state;
       value = refuses m s c.args.call (Receive c.in-Receive.replica c.in-Receive.job) c.in-Receive.is (received m c.in-Receive.replica c.in-Receive.job s) _ _ (p.1 ∙ ap (λ e. Err e) p.2) c.in_err-receive.ensures.outcome;
@@ -49,7 +49,7 @@ pub returns-in_err-hear : goal.returns-in_err-hear
 returns-in_err-hear g c =
     let m = g.B.Book.meaning in
     let s = view g.B.Book.state g.L.Log.entries g.L.Log.limit c.args.group.now in
-    let p = err_from_is_err_and c.from-residual-in_err-hear.result c.from-residual-in_err-hear.ensures.1 in
+    let p = err_from_is_err_and c.from_residual-in_err-hear.result c.from_residual-in_err-hear.ensures.1 in
     record {
       state = goes m s c.args.call (Hear c.in-Hear.replica c.in-Hear.job) c.in-Hear.is _ c.hear.ensures.state;
       value = refuses m s c.args.call (Hear c.in-Hear.replica c.in-Hear.job) c.in-Hear.is (phase_after s c.in-Hear.replica c.in-Hear.job) _ _ (p.1 ∙ ap (λ e. Err e) p.2) c.in_err-hear.ensures.outcome;
@@ -68,7 +68,7 @@ pub returns-in_err-sync : goal.returns-in_err-sync
 returns-in_err-sync g c =
     let m = g.B.Book.meaning in
     let s = view g.B.Book.state g.L.Log.entries g.L.Log.limit c.args.group.now in
-    let p = err_from_is_err_and c.from-residual-in_err-sync.result c.from-residual-in_err-sync.ensures.1 in
+    let p = err_from_is_err_and c.from_residual-in_err-sync.result c.from_residual-in_err-sync.ensures.1 in
     record {
       state = goes m s c.args.call Sync c.in-Sync.is _ c.sync.ensures.state;
       value = refuses m s c.args.call Sync c.in-Sync.is (synced m s.lead.waiting s) _ _ (p.1 ∙ ap (λ e. Err e) p.2) c.in_err-sync.ensures.outcome;
@@ -87,7 +87,7 @@ pub returns-in_err-notice : goal.returns-in_err-notice
 returns-in_err-notice g c =
     let m = g.B.Book.meaning in
     let s = view g.B.Book.state g.L.Log.entries g.L.Log.limit c.args.group.now in
-    let p = err_from_is_err_and c.from-residual-in_err-notice.result c.from-residual-in_err-notice.ensures.1 in
+    let p = err_from_is_err_and c.from_residual-in_err-notice.result c.from_residual-in_err-notice.ensures.1 in
     record {
       state = goes m s c.args.call (Notice c.in-Notice.replica c.in-Notice.job) c.in-Notice.is _ c.notice.ensures.state;
       value = refuses m s c.args.call (Notice c.in-Notice.replica c.in-Notice.job) c.in-Notice.is (pool_size (note c.in-Notice.replica c.in-Notice.job s) c.in-Notice.replica) _ _ (p.1 ∙ ap (λ e. Err e) p.2) c.in_err-notice.ensures.outcome;
@@ -97,7 +97,7 @@ pub returns-in_err-change : goal.returns-in_err-change
 returns-in_err-change g c =
     let m = g.B.Book.meaning in
     let s = view g.B.Book.state g.L.Log.entries g.L.Log.limit c.args.group.now in
-    let p = err_from_is_err_and c.from-residual-in_err-change.result c.from-residual-in_err-change.ensures.1 in
+    let p = err_from_is_err_and c.from_residual-in_err-change.result c.from_residual-in_err-change.ensures.1 in
     record {
       state = goes m s c.args.call (Change c.in-Change.leader c.in-Change.voters) c.in-Change.is _ c.change.ensures.state;
       value = refuses m s c.args.call (Change c.in-Change.leader c.in-Change.voters) c.in-Change.is (changed c.in-Change.voters s) _ _ (p.1 ∙ ap (λ e. Err e) p.2) c.in_err-change.ensures.outcome;
@@ -116,7 +116,7 @@ pub returns-in_err-query : goal.returns-in_err-query
 returns-in_err-query g c =
     let m = g.B.Book.meaning in
     let s = view g.B.Book.state g.L.Log.entries g.L.Log.limit c.args.group.now in
-    let p = err_from_is_err_and c.from-residual-in_err-query.result c.from-residual-in_err-query.ensures.1 in
+    let p = err_from_is_err_and c.from_residual-in_err-query.result c.from_residual-in_err-query.ensures.1 in
     record {
       state = goes m s c.args.call (Query c.in-Query.job) c.in-Query.is _ (stays m s c.in-Query.job);
       value = refuses m s c.args.call (Query c.in-Query.job) c.in-Query.is (status c.in-Query.job s) _ _ (p.1 ∙ ap (λ e. Err e) p.2) c.in_err-query.ensures.outcome;

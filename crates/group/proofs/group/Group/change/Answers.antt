@@ -20,7 +20,7 @@ returns-in_err-allows g c =
     let why = settled_err (change_refusal l v s) c.in_err-allows.field-0.0 c.in_err-allows.ensures in
     record {
       state = step_refused (change_refusal l v s) s (change l v s) why;
-      outcome = told_on c.from-residual.result (change_refusal l v s) (changed v s) c.from-residual.ensures.1 why;
+      outcome = told_on c.from_residual.result (change_refusal l v s) (changed v s) c.from_residual.ensures.1 why;
     }
 
 -- src/group/change.rt

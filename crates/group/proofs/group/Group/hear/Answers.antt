@@ -24,7 +24,7 @@ returns-in_err-named g c =
     let why = c.in_err-named.ensures (in_transit (answer_of (job_at self.jobs.items c.args.job) c.args.replica)) in
     record {
       state = step_refused (hear_refusal c.args.replica c.args.job s) s (hear c.args.replica c.args.job s) why;
-      outcome = told_on c.from-residual.result (hear_refusal c.args.replica c.args.job s) (phase_after s c.args.replica c.args.job) c.from-residual.ensures.1 why;
+      outcome = told_on c.from_residual.result (hear_refusal c.args.replica c.args.job s) (phase_after s c.args.replica c.args.job) c.from_residual.ensures.1 why;
     }
 
 -- an answer that is not on its way

@@ -16,11 +16,11 @@ returns-then-n-lt10 t c =
     record { content = rw d c.push.ensures.content; len = omega arith; bound = omega arith }
 
 pub push-requires-2 : goal.push-requires-2
-push-requires-2 t c = let l = longer c.args.n c.requires.0 c.if-n-lt10.false in omega arith
+push-requires-2 t c = let l = longer c.args.n c.requires.n_le_largest c.if-n-lt10.false in omega arith
 
 pub returns : goal.returns
 returns t c =
-    let l = longer c.args.n c.requires.0 c.if-n-lt10.false in
+    let l = longer c.args.n c.requires.n_le_largest c.if-n-lt10.false in
     let d = decimal_step c.args.n c.if-n-lt10.false (omega arith) in
     record {
       content = c.push-2.ensures.content ∙ (ap (λ t. t ++ ((48 + c.args.n % 10) ∷ [])) c.digits.ensures.content ∙ rw d (append_assoc _ (decimal (c.args.n / 10)) _));
