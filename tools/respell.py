@@ -37,8 +37,12 @@ def antt_files(top):
     return sorted(it for it in found if "/out/" not in it)
 
 
+def rt_files(top):
+    return sorted(glob.glob(f"{top}/crates/*/src/**/*.rt", recursive=True))
+
+
 def own_names(top):
-    """The names that the repository's antt files declare or bind, each with the files; goals apart."""
+    """The names that the repository's antt files declare, bind or import under another name, each with the files; goals apart."""
     own, goals = collections.defaultdict(set), set()
     for path in antt_files(top):
         for line in open(path, encoding="utf-8"):
@@ -56,13 +60,18 @@ def own_names(top):
             for name in names:
                 if PLAIN.match(name):
                     own[name].add(path)
+    for path in antt_files(top) + rt_files(top):
+        for line in open(path, encoding="utf-8"):
+            for name in re.findall(rf" as ({TOKEN})", line) if USE.match(line) else []:
+                if PLAIN.match(name):
+                    own[name].add(path)
     return {it: where for it, where in own.items() if it not in goals}, goals
 
 
 def borrowed(top):
     """The names that the files take from the library or from what the check makes."""
     names = set()
-    for path in antt_files(top) + glob.glob(f"{top}/crates/*/src/**/*.rt", recursive=True):
+    for path in antt_files(top) + rt_files(top):
         for line in open(path, encoding="utf-8"):
             if USE.match(line) and re.search(r"Rattle\.(std|base\.specs\.declared)\b|Goals|Given|\bborrow\.|\bdenote\.", line):
                 names |= set(re.findall(TOKEN, line.partition("{")[2]))
@@ -85,7 +94,7 @@ def main():
     if together:
         return 1
     edits = new | {it.replace("_", "-"): it for it in own if "_" in it}
-    for path in antt_files(top) + sorted(glob.glob(f"{top}/crates/*/src/**/*.rt", recursive=True)):
+    for path in antt_files(top) + rt_files(top):
         rewrite(path, lambda text: tokens(text, new))
     for path in sorted(glob.glob(f"{top}/crates/*/must-fail/*.edit")):
         rewrite(path, lambda text: tokens(text, edits))

@@ -1,7 +1,7 @@
 ghost use Rattle.std.specs.Prelude.{◌≡◌, ◌≤◌, true, false, length, MatchResult};
 ghost use Rattle.base.specs.declared.fault.Refusal.TheVariants.{BadLine};
-ghost use Rattle.lines.specs.Faults.{refused as refused-of};
-ghost use Rattle.lines.specs.Forms.{allowed as Allowed-of, fits, body as body_of};
+ghost use Rattle.lines.specs.Faults.{refused as refused_of};
+ghost use Rattle.lines.specs.Forms.{allowed as AllowedOf, fits, body as body_of};
 ghost use Rattle.lines.specs.Limits.{longest};
 
 use crate::fault::refused;
@@ -10,14 +10,14 @@ use base::{Fault, Refusal};
 
 // A byte that a line may have before its end.
 fn allowed(b: u8) -> bool
-    ensures { result ≡ Allowed-of b }
+    ensures { result ≡ AllowedOf b }
 {
     matches!(b, b'\t' | b'0'..=b'9' | b'A'..=b'Z')
 }
 
 // The line without its end.
 pub(crate) fn body(line: &[u8]) -> Result<&[u8], Fault>
-    ensures { MatchResult result (λ b. (fits line.now ≡ true) × (b.now ≡ body_of line.now) × (length b.now ≤ longest)) (λ e. (fits line.now ≡ false) × (e ≡ refused-of BadLine)) }
+    ensures { MatchResult result (λ b. (fits line.now ≡ true) × (b.now ≡ body_of line.now) × (length b.now ≤ longest)) (λ e. (fits line.now ≡ false) × (e ≡ refused_of BadLine)) }
 {
     if line.len() > LONGEST {
         return Err(refused(Refusal::BadLine));

@@ -1,11 +1,11 @@
 ghost use Rattle.std.specs.Prelude.{◌≡◌};
-ghost use Rattle.lines.specs.Faults.{refused as refused-of, bad_field};
+ghost use Rattle.lines.specs.Faults.{refused as refused_of, bad_field};
 
 use base::{Fault, Layer, Refusal};
 
 // A refusal about the whole line or buffer.
 pub(crate) fn refused(number: Refusal) -> Fault
-    ensures { result ≡ refused-of number }
+    ensures { result ≡ refused_of number }
 {
     Fault::of(number, Layer::Text)
 }

@@ -1,11 +1,11 @@
 ghost use Rattle.std.specs.Prelude.{◌≡◌, true, is_some, Some};
-ghost use Rattle.lines.specs.Forms.{number as number_of, led as led-of};
+ghost use Rattle.lines.specs.Forms.{number as number_of, led as led_of};
 
 use crate::limits::LARGEST;
 
 // One byte or more, and no zero in front of others.
 fn led(bytes: &[u8]) -> bool
-    ensures { result ≡ led-of bytes.now }
+    ensures { result ≡ led_of bytes.now }
 {
     !bytes.is_empty() && (bytes.len() == 1 || bytes[0] != b'0')
 }

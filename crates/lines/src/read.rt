@@ -1,6 +1,6 @@
 ghost use Rattle.std.specs.Prelude.{◌≡◌, MatchResult, ◌≢◌};
 ghost use Rattle.base.specs.declared.fault.Refusal.TheVariants.{WrongFieldCount};
-ghost use Rattle.lines.specs.Faults.{refused as refused-of};
+ghost use Rattle.lines.specs.Faults.{refused as refused_of};
 ghost use Rattle.lines.specs.Fields.{left};
 ghost use Rattle.lines.specs.Reading.{setting, proposal, pair, change, query, step_of, parse};
 
@@ -108,7 +108,7 @@ fn read_query(rest: &mut Rest) -> Result<Step, Fault>
 
 // There are as many fields as there should be, or the line is refused.
 fn counted(have: usize, want: usize) -> Result<(), Fault>
-    ensures { MatchResult result (λ _. have ≡ want) (λ e. (have ≢ want) × (e ≡ refused-of WrongFieldCount)) }
+    ensures { MatchResult result (λ _. have ≡ want) (λ e. (have ≢ want) × (e ≡ refused_of WrongFieldCount)) }
 {
     if have == want {
         Ok(())

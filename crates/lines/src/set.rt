@@ -1,11 +1,11 @@
 ghost use Rattle.std.specs.Prelude.{◌≡◌, true, is_some, Some};
-ghost use Rattle.lines.specs.Forms.{rises as rises-of, set as set_of};
+ghost use Rattle.lines.specs.Forms.{rises as rises_of, set as set_of};
 
 use terms::Voters;
 
 // A digit, and at least `low`.
 fn rises(low: u8, b: u8) -> bool
-    ensures { result ≡ rises-of low b }
+    ensures { result ≡ rises_of low b }
 {
     b.is_ascii_digit() && low <= b - b'0'
 }

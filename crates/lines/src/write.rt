@@ -2,7 +2,7 @@ ghost use Rattle.std.specs.Prelude.{◌≡◌, ◌≤◌, [], ◌∷◌, ◌++�
 ghost use Rattle.terms.specs.declared.calls.Call.TheVariants.{Change};
 ghost use Rattle.lines.specs.declared.step.Step.TheVariants.{Call as Asks};
 ghost use Rattle.lines.specs.Texts.{Made};
-ghost use Rattle.lines.specs.Writing.{nobody as nobody-of, first_large, tabbed, line_of, unwritable, outcome, written};
+ghost use Rattle.lines.specs.Writing.{nobody as nobody_of, first_large, tabbed, line_of, unwritable, outcome, written};
 
 use crate::fault::{bad_field, refused};
 use crate::limits::{LARGEST, LONGEST};
@@ -13,7 +13,7 @@ use terms::{Call, Voters};
 
 // No voter is named.
 fn nobody(voters: Voters) -> bool
-    ensures { result ≡ nobody-of voters }
+    ensures { result ≡ nobody_of voters }
 {
     for d in 0..10u32 {
         if voters.has(d) {

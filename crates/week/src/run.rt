@@ -3,7 +3,7 @@ ghost use Rattle.lines.specs.Reading.{parse};
 ghost use Rattle.group.specs.View.{view};
 ghost use Rattle.week.specs.Cuts.{lines_in, first_line, after_first};
 ghost use Rattle.week.specs.Reports.{line_for};
-ghost use Rattle.week.specs.Runs.{longest_file, misplaced as misplaced-fault, ends, comes_to, state_after, later, opening, opened, week_report};
+ghost use Rattle.week.specs.Runs.{longest_file, misplaced as misplaced_fault, ends, comes_to, state_after, later, opening, opened, week_report};
 ghost use Rattle.week.specs.Begun.{Begun};
 
 use crate::calls::perform;
@@ -22,7 +22,7 @@ pub const LONGEST_FILE: usize = 60_000;
 
 // The first line is no setting, or a later one is.
 fn misplaced() -> Fault
-    ensures { result ≡ misplaced-fault }
+    ensures { result ≡ misplaced_fault }
 {
     Fault::of(Refusal::MisplacedSetting, Layer::Text)
 }
