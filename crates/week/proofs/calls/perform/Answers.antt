@@ -7,8 +7,8 @@ use Rattle.week.specs.declared.event.Outcome.TheVariants.{Proposed, Received, He
 use Rattle.week.proofs.Settling.{goes, tells, refuses, stays}
 use Rattle.week.proofs.calls.perform.Goals as goal
 
-pub returns-in_err-propose : goal.returns-in_err-propose
-returns-in_err-propose g c =
+pub returns-in_err-propose-in-Propose : goal.returns-in_err-propose-in-Propose
+returns-in_err-propose-in-Propose g c =
     let m = g.B.Book.meaning in
     let s = view g.B.Book.state g.L.Log.entries g.L.Log.limit c.args.group.now in
     let p = err_from_is_err_and c.from_residual.result c.from_residual.ensures.1 in
@@ -17,8 +17,8 @@ returns-in_err-propose g c =
       value = refuses m s c.args.call (Propose c.in-Propose.record) c.in-Propose.is s.jobs.count _ _ (p.1 ∙ ap (λ e. Err e) p.2) c.in_err-propose.ensures.outcome;
     }
 
-pub returns-in_ok-propose : goal.returns-in_ok-propose
-returns-in_ok-propose g c =
+pub returns-in_ok-propose-in-Propose : goal.returns-in_ok-propose-in-Propose
+returns-in_ok-propose-in-Propose g c =
     let m = g.B.Book.meaning in
     let s = view g.B.Book.state g.L.Log.entries g.L.Log.limit c.args.group.now in
     record {
@@ -26,8 +26,8 @@ returns-in_ok-propose g c =
       value = tells m s c.args.call (Propose c.in-Propose.record) c.in-Propose.is (λ x. Proposed x) s.jobs.count _ refl c.in_ok-propose.ensures.outcome;
     }
 
-pub returns-in_err-receive : goal.returns-in_err-receive
-returns-in_err-receive g c =
+pub returns-in_err-receive-in-Receive : goal.returns-in_err-receive-in-Receive
+returns-in_err-receive-in-Receive g c =
     let m = g.B.Book.meaning in
     let s = view g.B.Book.state g.L.Log.entries g.L.Log.limit c.args.group.now in
     let p = err_from_is_err_and c.from_residual-in_err-receive.result c.from_residual-in_err-receive.ensures.1 in
@@ -36,8 +36,8 @@ returns-in_err-receive g c =
       value = refuses m s c.args.call (Receive c.in-Receive.replica c.in-Receive.job) c.in-Receive.is (received m c.in-Receive.replica c.in-Receive.job s) _ _ (p.1 ∙ ap (λ e. Err e) p.2) c.in_err-receive.ensures.outcome;
     }
 
-pub returns-in_ok-receive : goal.returns-in_ok-receive
-returns-in_ok-receive g c =
+pub returns-in_ok-receive-in-Receive : goal.returns-in_ok-receive-in-Receive
+returns-in_ok-receive-in-Receive g c =
     let m = g.B.Book.meaning in
     let s = view g.B.Book.state g.L.Log.entries g.L.Log.limit c.args.group.now in
     record {
@@ -45,8 +45,8 @@ returns-in_ok-receive g c =
       value = tells m s c.args.call (Receive c.in-Receive.replica c.in-Receive.job) c.in-Receive.is (λ x. Received x) (received m c.in-Receive.replica c.in-Receive.job s) _ refl c.in_ok-receive.ensures.outcome;
     }
 
-pub returns-in_err-hear : goal.returns-in_err-hear
-returns-in_err-hear g c =
+pub returns-in_err-hear-in-Hear : goal.returns-in_err-hear-in-Hear
+returns-in_err-hear-in-Hear g c =
     let m = g.B.Book.meaning in
     let s = view g.B.Book.state g.L.Log.entries g.L.Log.limit c.args.group.now in
     let p = err_from_is_err_and c.from_residual-in_err-hear.result c.from_residual-in_err-hear.ensures.1 in
@@ -55,8 +55,8 @@ returns-in_err-hear g c =
       value = refuses m s c.args.call (Hear c.in-Hear.replica c.in-Hear.job) c.in-Hear.is (phase_after s c.in-Hear.replica c.in-Hear.job) _ _ (p.1 ∙ ap (λ e. Err e) p.2) c.in_err-hear.ensures.outcome;
     }
 
-pub returns-in_ok-hear : goal.returns-in_ok-hear
-returns-in_ok-hear g c =
+pub returns-in_ok-hear-in-Hear : goal.returns-in_ok-hear-in-Hear
+returns-in_ok-hear-in-Hear g c =
     let m = g.B.Book.meaning in
     let s = view g.B.Book.state g.L.Log.entries g.L.Log.limit c.args.group.now in
     record {
@@ -64,8 +64,8 @@ returns-in_ok-hear g c =
       value = tells m s c.args.call (Hear c.in-Hear.replica c.in-Hear.job) c.in-Hear.is (λ x. Heard x) (phase_after s c.in-Hear.replica c.in-Hear.job) _ refl c.in_ok-hear.ensures.outcome;
     }
 
-pub returns-in_err-sync : goal.returns-in_err-sync
-returns-in_err-sync g c =
+pub returns-in_err-sync-in-Sync : goal.returns-in_err-sync-in-Sync
+returns-in_err-sync-in-Sync g c =
     let m = g.B.Book.meaning in
     let s = view g.B.Book.state g.L.Log.entries g.L.Log.limit c.args.group.now in
     let p = err_from_is_err_and c.from_residual-in_err-sync.result c.from_residual-in_err-sync.ensures.1 in
@@ -74,8 +74,8 @@ returns-in_err-sync g c =
       value = refuses m s c.args.call Sync c.in-Sync.is (synced m s.lead.waiting s) _ _ (p.1 ∙ ap (λ e. Err e) p.2) c.in_err-sync.ensures.outcome;
     }
 
-pub returns-in_ok-sync : goal.returns-in_ok-sync
-returns-in_ok-sync g c =
+pub returns-in_ok-sync-in-Sync : goal.returns-in_ok-sync-in-Sync
+returns-in_ok-sync-in-Sync g c =
     let m = g.B.Book.meaning in
     let s = view g.B.Book.state g.L.Log.entries g.L.Log.limit c.args.group.now in
     record {
@@ -83,8 +83,8 @@ returns-in_ok-sync g c =
       value = tells m s c.args.call Sync c.in-Sync.is (λ x. Synced x) (synced m s.lead.waiting s) _ refl c.in_ok-sync.ensures.outcome;
     }
 
-pub returns-in_err-notice : goal.returns-in_err-notice
-returns-in_err-notice g c =
+pub returns-in_err-notice-in-Notice : goal.returns-in_err-notice-in-Notice
+returns-in_err-notice-in-Notice g c =
     let m = g.B.Book.meaning in
     let s = view g.B.Book.state g.L.Log.entries g.L.Log.limit c.args.group.now in
     let p = err_from_is_err_and c.from_residual-in_err-notice.result c.from_residual-in_err-notice.ensures.1 in
@@ -93,8 +93,8 @@ returns-in_err-notice g c =
       value = refuses m s c.args.call (Notice c.in-Notice.replica c.in-Notice.job) c.in-Notice.is (pool_size (note c.in-Notice.replica c.in-Notice.job s) c.in-Notice.replica) _ _ (p.1 ∙ ap (λ e. Err e) p.2) c.in_err-notice.ensures.outcome;
     }
 
-pub returns-in_err-change : goal.returns-in_err-change
-returns-in_err-change g c =
+pub returns-in_err-change-in-Change : goal.returns-in_err-change-in-Change
+returns-in_err-change-in-Change g c =
     let m = g.B.Book.meaning in
     let s = view g.B.Book.state g.L.Log.entries g.L.Log.limit c.args.group.now in
     let p = err_from_is_err_and c.from_residual-in_err-change.result c.from_residual-in_err-change.ensures.1 in
@@ -103,8 +103,8 @@ returns-in_err-change g c =
       value = refuses m s c.args.call (Change c.in-Change.leader c.in-Change.voters) c.in-Change.is (changed c.in-Change.voters s) _ _ (p.1 ∙ ap (λ e. Err e) p.2) c.in_err-change.ensures.outcome;
     }
 
-pub returns-in_ok-change : goal.returns-in_ok-change
-returns-in_ok-change g c =
+pub returns-in_ok-change-in-Change : goal.returns-in_ok-change-in-Change
+returns-in_ok-change-in-Change g c =
     let m = g.B.Book.meaning in
     let s = view g.B.Book.state g.L.Log.entries g.L.Log.limit c.args.group.now in
     record {
@@ -112,8 +112,8 @@ returns-in_ok-change g c =
       value = tells m s c.args.call (Change c.in-Change.leader c.in-Change.voters) c.in-Change.is (λ x. Changed x) (changed c.in-Change.voters s) _ refl c.in_ok-change.ensures.outcome;
     }
 
-pub returns-in_err-query : goal.returns-in_err-query
-returns-in_err-query g c =
+pub returns-in_err-query-in-Query : goal.returns-in_err-query-in-Query
+returns-in_err-query-in-Query g c =
     let m = g.B.Book.meaning in
     let s = view g.B.Book.state g.L.Log.entries g.L.Log.limit c.args.group.now in
     let p = err_from_is_err_and c.from_residual-in_err-query.result c.from_residual-in_err-query.ensures.1 in
@@ -122,8 +122,8 @@ returns-in_err-query g c =
       value = refuses m s c.args.call (Query c.in-Query.job) c.in-Query.is (status c.in-Query.job s) _ _ (p.1 ∙ ap (λ e. Err e) p.2) c.in_err-query.ensures.outcome;
     }
 
-pub returns-in_ok-query : goal.returns-in_ok-query
-returns-in_ok-query g c =
+pub returns-in_ok-query-in-Query : goal.returns-in_ok-query-in-Query
+returns-in_ok-query-in-Query g c =
     let m = g.B.Book.meaning in
     let s = view g.B.Book.state g.L.Log.entries g.L.Log.limit c.args.group.now in
     record {

@@ -6,10 +6,10 @@ use Rattle.week.proofs.run.run_lines.Goals as goal
 
 pub go_on-requires : goal.go_on-requires
 go_on-requires g c =
-    let less = shorter c.args.file.now c.cut.result.1.now c.requires.0 c.cut.ensures.rest in omega (arith, less, c.requires.1)
+    let less = shorter c.args.file.now c.cut.result.1.now c.requires.file_nonzero c.cut.ensures.rest in omega (arith, less, c.requires.file_len_bound)
 
-pub returns-in_ok-add : goal.returns-in_ok-add
-returns-in_ok-add g c =
+pub returns-in_ok-add-in-Ok : goal.returns-in_ok-add-in-Ok
+returns-in_ok-add-in-Ok g c =
     let b = c.in-Ok.ensures in
     let s = view g.B.Book.state g.L.Log.entries g.L.Log.limit c.in-Ok.group in
     IfOk-weaker c.go_on.result _ _

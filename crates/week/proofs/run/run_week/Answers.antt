@@ -11,4 +11,4 @@ pub returns : goal.returns
 returns g c =
     let file = c.args.file.now in
     something g.B.Book.meaning g.L.Log.limit file _ _ c.new-report.ensures.items
-    c.in_ok-run_lines.ensures c.if-file-gt-LONGEST-FILE.false (filled_by file c.if-is_empty.ensures)
+    c.in_ok-run_lines.ensures c.if-file-gt-LONGEST_FILE.false (filled_by file c.if-is_empty.ensures)
