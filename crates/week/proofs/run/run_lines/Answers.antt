@@ -14,5 +14,5 @@ returns-in_ok-add-in-Ok g c =
     let s = view g.B.Book.state g.L.Log.entries g.L.Log.limit c.in-Ok.group in
     IfOk-weaker c.go_on.result _ _
     (λ x more. begins g.B.Book.meaning g.L.Log.limit c.args.file.now c.cut.result.0.now c.cut.result.1.now _ _ _ b.0 s c.quorums.result
-    c.cut.ensures.line c.cut.ensures.rest b.1 b.2 c.quorums.ensures c.in_ok-add.ensures more)
+    c.cut.ensures.line c.cut.ensures.rest b.1 b.2 c.quorums.ensures c.in_ok-add-in-Ok.ensures more)
     c.go_on.ensures
