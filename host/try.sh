@@ -2,9 +2,10 @@
 # Builds the line check as a C library, links check.c with it, and compares what it says of sample.txt.
 set -eu
 cd "$(dirname "$0")/.."
-${RT:-rt} staticlib lines
+(cd crates/lines_c && ${RT:-rt} lib)
 mkdir -p target/host
-gcc -std=c99 -Wall -Wextra -Werror -Ihost host/check.c target/staticlib/liblines.a -o target/host/check
+cp crates/lines_c/out/liblines_c.a target/host/liblines.a
+gcc -std=c99 -Wall -Wextra -Werror -Ihost host/check.c target/host/liblines.a -o target/host/check
 status=0
 target/host/check < host/sample.txt > target/host/found.txt || status=$?
 diff -u host/expected.txt target/host/found.txt

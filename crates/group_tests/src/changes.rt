@@ -17,6 +17,7 @@ fn confirmed(res: u32, epoch: u32) -> Phase {
 fn mid_answer(rt: HostRuntime) -> Result<(), Fail> {
     let mut group = shipped(&rt, 5, 0, true)?;
     plays(
+        &rt,
         &mut group,
         &[
             proposes(booking(3, 8, 10), 0),
@@ -42,6 +43,7 @@ fn mid_answer(rt: HostRuntime) -> Result<(), Fail> {
 fn told_twice(rt: HostRuntime) -> Result<(), Fail> {
     let mut group = shipped(&rt, 5, 0, true)?;
     plays(
+        &rt,
         &mut group,
         &[
             proposes(booking(3, 8, 10), 0),
@@ -66,6 +68,7 @@ fn told_twice(rt: HostRuntime) -> Result<(), Fail> {
 fn confirmed_survives(rt: HostRuntime) -> Result<(), Fail> {
     let mut group = shipped(&rt, 5, 0, true)?;
     plays(
+        &rt,
         &mut group,
         &[
             proposes(booking(3, 8, 10), 0),
@@ -97,6 +100,7 @@ fn confirmed_survives(rt: HostRuntime) -> Result<(), Fail> {
 fn waits_once(rt: HostRuntime) -> Result<(), Fail> {
     let mut group = shipped(&rt, 3, 0, true)?;
     plays(
+        &rt,
         &mut group,
         &[
             proposes(write(7, 5), 0),
@@ -115,6 +119,7 @@ fn waits_once(rt: HostRuntime) -> Result<(), Fail> {
 fn recovered_in_order(rt: HostRuntime) -> Result<(), Fail> {
     let mut group = shipped(&rt, 3, 0, true)?;
     plays(
+        &rt,
         &mut group,
         &[
             proposes(write(1, 5), 0),
@@ -140,6 +145,7 @@ fn recovered_in_order(rt: HostRuntime) -> Result<(), Fail> {
 fn leader_looks(rt: HostRuntime) -> Result<(), Fail> {
     let mut group = shipped(&rt, 3, 0, true)?;
     plays(
+        &rt,
         &mut group,
         &[
             proposes(write(7, 5), 0),
@@ -163,6 +169,7 @@ fn leader_looks(rt: HostRuntime) -> Result<(), Fail> {
 fn dropped(rt: HostRuntime) -> Result<(), Fail> {
     let mut group = shipped(&rt, 5, 0, true)?;
     plays(
+        &rt,
         &mut group,
         &[
             proposes(write(7, 5), 0),

@@ -6,6 +6,7 @@ use books::*;
 use group::*;
 use logs::*;
 use protocol::*;
+use std::process::Abort;
 use std::test::*;
 use terms::{Call, Changed, Phase, Received};
 
@@ -14,6 +15,7 @@ use terms::{Call, Changed, Phase, Received};
 fn epochs(rt: HostRuntime) -> Result<(), Fail> {
     let mut group = shipped(&rt, 1, 0, true)?;
     plays(
+        &rt,
         &mut group,
         &[proposes(write(7, 5), 0), receives(0, 0, Received::Yes)],
     )?;
@@ -33,6 +35,7 @@ fn epochs(rt: HostRuntime) -> Result<(), Fail> {
         epoch: 9_999,
     };
     plays(
+        &rt,
         &mut group,
         &[
             refuses(again, 10),
@@ -53,7 +56,7 @@ fn epochs(rt: HostRuntime) -> Result<(), Fail> {
 }
 
 // As many jobs as the log can hold, all on one slot: the next is refused, and the log takes in every one.
-fn holds<L: Log + Drop>(rt: &HostRuntime, limit: u32) -> Result<(), Fail> {
+fn holds<L: Log + Drop>(rt: &(impl Abort + AllocGlobal), limit: u32) -> Result<(), Fail> {
     let setting = Setting {
         size: 1,
         leader: 0,
@@ -61,7 +64,7 @@ fn holds<L: Log + Drop>(rt: &HostRuntime, limit: u32) -> Result<(), Fail> {
     };
     let mut group = Group::<Cards, L>::new(rt.alloc(), setting)?;
     for job in 0..limit {
-        plays(&mut group, &[proposes(write(7, job), job)])?;
+        plays(rt, &mut group, &[proposes(write(7, job), job)])?;
     }
     let full = [
         (Call::Propose(write(256, 0)), Outcome::Misfit(4)),
@@ -69,9 +72,9 @@ fn holds<L: Log + Drop>(rt: &HostRuntime, limit: u32) -> Result<(), Fail> {
         refuses(Call::Sync, 8),
         refuses(Call::Query { job: limit }, 6),
     ];
-    plays(&mut group, &full)?;
+    plays(rt, &mut group, &full)?;
     for job in 0..limit {
-        plays(&mut group, &[receives(0, job, Received::No)])?;
+        plays(rt, &mut group, &[receives(0, job, Received::No)])?;
     }
     for job in 0..limit {
         let before = job.saturating_sub(1);
@@ -81,9 +84,9 @@ fn holds<L: Log + Drop>(rt: &HostRuntime, limit: u32) -> Result<(), Fail> {
             Some(job.saturating_add(1)),
             Some(before),
         );
-        plays(&mut group, &[syncs(job, before), last])?;
+        plays(rt, &mut group, &[syncs(job, before), last])?;
     }
-    plays(&mut group, &full)
+    plays(rt, &mut group, &full)
 }
 
 #[test]

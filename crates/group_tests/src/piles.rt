@@ -20,6 +20,7 @@ fn three_books(rt: HostRuntime) -> Result<(), Fail> {
     };
     let mut group = Group::<Three, LineLog>::new(rt.alloc(), setting)?;
     plays(
+        &rt,
         &mut group,
         &[
             proposes(write(7, 5), 0),

@@ -3,6 +3,7 @@ use books::*;
 use group::*;
 use logs::*;
 use protocol::*;
+use std::process::Abort;
 use std::test::*;
 use terms::{Call, Changed, Phase, Received, Status, Synced};
 
@@ -30,7 +31,7 @@ pub(crate) enum Outcome {
 pub(crate) type Row = (Call, Outcome);
 
 pub(crate) fn shipped(
-    rt: &HostRuntime,
+    rt: &impl AllocGlobal,
     size: u32,
     leader: u32,
     fast: bool,
@@ -83,13 +84,17 @@ fn statuses<B: Book, L: Log>(group: &Group<B, L>) -> [Option<Status>; 8] {
 }
 
 // Makes one call after the other. A refused one leaves the first eight jobs as they were.
-pub(crate) fn plays<B: Book, L: Log>(group: &mut Group<B, L>, rows: &[Row]) -> Result<(), Fail> {
+pub(crate) fn plays<B: Book, L: Log>(
+    rt: &impl Abort,
+    group: &mut Group<B, L>,
+    rows: &[Row],
+) -> Result<(), Fail> {
     for (i, (call, expected)) in rows.iter().enumerate() {
         let before = statuses(group);
         let came = call_on(group, *call);
-        assert_eq!(came, *expected, "row {i}");
+        assert_eq!(rt; came, *expected, "row {i}");
         if let Outcome::Refused(_) | Outcome::Misfit(_) = came {
-            assert_eq!(statuses(group), before, "row {i}");
+            assert_eq!(rt; statuses(group), before, "row {i}");
         }
     }
     Ok(())

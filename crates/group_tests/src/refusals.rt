@@ -15,7 +15,7 @@ const CONFIRMED: Phase = Phase::Fast {
 
 // Each refusal of each call leaves the group as it was; the calls after it go on as if it had not been.
 
-fn unmade(rt: &HostRuntime, size: u32, leader: u32) -> Option<Outcome> {
+fn unmade(rt: &impl AllocGlobal, size: u32, leader: u32) -> Option<Outcome> {
     let setting = Setting {
         size,
         leader,
@@ -46,6 +46,7 @@ fn settings(rt: HostRuntime) -> Result<(), Fail> {
 fn propose(rt: HostRuntime) -> Result<(), Fail> {
     let mut group = shipped(&rt, 3, 0, true)?;
     plays(
+        &rt,
         &mut group,
         &[
             (
@@ -75,6 +76,7 @@ fn propose(rt: HostRuntime) -> Result<(), Fail> {
 fn receive(rt: HostRuntime) -> Result<(), Fail> {
     let mut group = shipped(&rt, 3, 0, true)?;
     plays(
+        &rt,
         &mut group,
         &[
             refuses(Call::Receive { replica: 0, job: 0 }, 6),
@@ -94,6 +96,7 @@ fn receive(rt: HostRuntime) -> Result<(), Fail> {
 fn hear(rt: HostRuntime) -> Result<(), Fail> {
     let mut group = shipped(&rt, 3, 0, true)?;
     plays(
+        &rt,
         &mut group,
         &[
             refuses(Call::Hear { replica: 0, job: 0 }, 6),
@@ -119,6 +122,7 @@ fn hear(rt: HostRuntime) -> Result<(), Fail> {
 fn sync(rt: HostRuntime) -> Result<(), Fail> {
     let mut group = shipped(&rt, 3, 0, true)?;
     plays(
+        &rt,
         &mut group,
         &[
             refuses(Call::Sync, 8),
@@ -140,6 +144,7 @@ fn sync(rt: HostRuntime) -> Result<(), Fail> {
 fn notice(rt: HostRuntime) -> Result<(), Fail> {
     let mut group = shipped(&rt, 3, 0, true)?;
     plays(
+        &rt,
         &mut group,
         &[
             refuses(Call::Notice { replica: 0, job: 0 }, 6),
@@ -170,6 +175,7 @@ fn change(leader: u32, digits: &[u32]) -> Call {
 fn changes_refused(rt: HostRuntime) -> Result<(), Fail> {
     let mut group = shipped(&rt, 5, 0, true)?;
     plays(
+        &rt,
         &mut group,
         &[
             proposes(write(7, 5), 0),
@@ -194,6 +200,7 @@ fn changes_refused(rt: HostRuntime) -> Result<(), Fail> {
 fn query(rt: HostRuntime) -> Result<(), Fail> {
     let mut group = shipped(&rt, 3, 0, true)?;
     plays(
+        &rt,
         &mut group,
         &[
             refuses(Call::Query { job: 0 }, 6),

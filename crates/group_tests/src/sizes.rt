@@ -5,6 +5,7 @@ use books::*;
 use group::*;
 use logs::*;
 use protocol::*;
+use std::process::Abort;
 use std::test::*;
 use terms::{Phase, Received};
 
@@ -31,11 +32,16 @@ fn quorums(rt: HostRuntime) -> Result<(), Fail> {
 }
 
 // All boxes say yes. The job is confirmed once enough answers are heard, the leader's among them.
-fn confirms(rt: &HostRuntime, size: u32, leader: u32, enough: u32) -> Result<(), Fail> {
+fn confirms(
+    rt: &(impl Abort + AllocGlobal),
+    size: u32,
+    leader: u32,
+    enough: u32,
+) -> Result<(), Fail> {
     let mut group = shipped(rt, size, leader, true)?;
-    plays(&mut group, &[proposes(booking(3, 8, 10), 0)])?;
+    plays(rt, &mut group, &[proposes(booking(3, 8, 10), 0)])?;
     for r in 0..size {
-        plays(&mut group, &[receives(r, 0, Received::Yes)])?;
+        plays(rt, &mut group, &[receives(r, 0, Received::Yes)])?;
     }
     for r in 0..size {
         let phase = if r >= leader && r + 1 >= enough {
@@ -46,9 +52,9 @@ fn confirms(rt: &HostRuntime, size: u32, leader: u32, enough: u32) -> Result<(),
         } else {
             Phase::Waiting
         };
-        plays(&mut group, &[hears(r, 0, phase)])?;
+        plays(rt, &mut group, &[hears(r, 0, phase)])?;
     }
-    plays(&mut group, &[syncs(0, 1)])
+    plays(rt, &mut group, &[syncs(0, 1)])
 }
 
 #[test]
@@ -61,11 +67,11 @@ fn fast(rt: HostRuntime) -> Result<(), Fail> {
 }
 
 // Without the fast way all boxes say no, and the job is slow once enough of them are heard.
-fn declines(rt: &HostRuntime, size: u32, enough: u32) -> Result<(), Fail> {
+fn declines(rt: &(impl Abort + AllocGlobal), size: u32, enough: u32) -> Result<(), Fail> {
     let mut group = shipped(rt, size, 0, false)?;
-    plays(&mut group, &[proposes(booking(3, 8, 10), 0)])?;
+    plays(rt, &mut group, &[proposes(booking(3, 8, 10), 0)])?;
     for r in 0..size {
-        plays(&mut group, &[receives(r, 0, Received::No)])?;
+        plays(rt, &mut group, &[receives(r, 0, Received::No)])?;
     }
     for r in 0..size {
         let phase = if r + 1 < enough {
@@ -73,9 +79,10 @@ fn declines(rt: &HostRuntime, size: u32, enough: u32) -> Result<(), Fail> {
         } else {
             Phase::Slow
         };
-        plays(&mut group, &[hears(r, 0, phase)])?;
+        plays(rt, &mut group, &[hears(r, 0, phase)])?;
     }
     plays(
+        rt,
         &mut group,
         &[syncs(0, 1), queries(0, Phase::Slow, Some(1), Some(1))],
     )

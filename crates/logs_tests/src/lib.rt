@@ -15,6 +15,7 @@ type Log3072 = Continued<Log2048, Log1024>;
 type Log4096 = Continued<Log2048, Log2048>;
 
 // Takes as many numbers as its capacity; then it refuses, and holds what it held.
+#[cfg(test)]
 fn fills_up<L: Log + Drop>(rt: &impl Abort, capacity: u16) -> Result<(), Fail> {
     assert_eq!(rt; L::capacity(), usize::from(capacity));
     let mut log = L::fresh();
@@ -98,12 +99,12 @@ fn lines(rt: HostRuntime) -> Result<(), Fail> {
 #[test]
 fn few_lines(rt: HostRuntime) {
     let mut log = LineLog::fresh();
-    assert_eq!(rt; log.text(), b"");
+    assert_eq!(rt; log.text(), b"".as_slice());
     assert_eq!(rt; log.get(1), None);
     for number in [0, 10, 65_535, 7] {
         assert!(rt; log.add(number).is_ok());
     }
-    assert_eq!(rt; log.text(), b"0\n10\n65535\n7\n");
+    assert_eq!(rt; log.text(), b"0\n10\n65535\n7\n".as_slice());
     assert_eq!(rt; log.length(), 4);
     assert_eq!(rt; log.get(3), Some(65_535));
     assert_eq!(rt; log.get(4), Some(7));

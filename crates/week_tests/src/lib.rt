@@ -9,6 +9,7 @@ use terms::{Call, Phase, Status};
 use week::{Event, Outcome, report_line, run_week};
 
 // The file must give the report.
+#[cfg(test)]
 fn gives(rt: &(impl Abort + AllocGlobal), file: &[u8], report: &[u8]) -> Result<(), Fail> {
     let told = run_week::<ShippedBooks, ShippedLog>(rt.alloc(), file)?;
     assert!(rt; told.as_slice() == report);
