@@ -1,5 +1,5 @@
 -- A book told by what it does with the records that fit it.
-use Rattle.std.specs.Prelude.{false, cond, ◌||◌, is_some}
+use Rattle.std.specs.Prelude.{false, cond, is_some}
 use Rattle.base.specs.Meaning.{Meaning}
 
 -- the same book on all records: one that does not fit clashes with nothing, has result 0 and moves nothing

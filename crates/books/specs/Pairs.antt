@@ -1,5 +1,5 @@
 -- Two books as one: book number 0 is the left one's, any other the right one's, lowered by 1.
-use Rattle.std.specs.Prelude.{ℕ, ◌-◌, Bool, false, cond, ◌==◌}
+use Rattle.std.specs.Prelude.{◌-◌, Bool, false, cond, ◌==◌}
 use Rattle.base.specs.declared.«record».Record.{Record}
 use Rattle.base.specs.Meaning.{Meaning}
 

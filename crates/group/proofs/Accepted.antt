@@ -1,5 +1,5 @@
 -- A call's step and what it tells, by whether it is refused.
-use Rattle.std.proofs.Common.{◌≡◌, IsErrAnd, Some, None, Ok, Err, Option, Result, refl, ap, ◌∙◌}
+use Rattle.std.proofs.Common.{◌≡◌, IsErrAnd, Some, None, Ok, Err, Option, Result, ap, ◌∙◌}
 use Rattle.std.proofs.lemmas.Result.{err_from_is_err_and}
 use Rattle.base.specs.declared.fault.Fault.{Fault}
 use Rattle.protocol.specs.Outcomes.{settled, unless_refused}

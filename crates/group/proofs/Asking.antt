@@ -1,12 +1,11 @@
 -- A query: what the code tells is what is defined.
-use Rattle.std.proofs.Common.{◌≡◌, ℕ, ◌<◌, Bool, List, length, None, Option, ap, ◌∙◌, arith}
+use Rattle.std.proofs.Common.{◌≡◌, ℕ, ◌<◌, length, None, Option, ap, ◌∙◌, arith}
 use Rattle.std.proofs.lemmas.Bool.Decides.{nat_tests}
 use Rattle.terms.specs.declared.calls.Status.{Status}
 use Rattle.terms.specs.Written.{told_of}
 use Rattle.protocol.specs.Refusals.{query_refusal}
 use Rattle.protocol.specs.Steps.{status, place_after}
 use Rattle.group.specs.declared.job.Job.{Job}
-use Rattle.group.specs.declared.replica.Replica.{Replica}
 use Rattle.group.specs.View.{Parts, seen, job_at}
 
 module _ {S : Type 0} (g : Parts S) (c : ℕ) where

@@ -1,17 +1,16 @@
 -- A change of leader: what the code does is what the protocol does.
-use Rattle.std.proofs.Common.{◌≡◌, ℕ, zero, suc, ◌+◌, ◌<◌, Bool, true, false, cond, ◌&&◌, eqb, ltb, List, [], ◌∷◌, ◌++◌, length, set, Some, None, Ok, Err, Option, Result, sym, refl, ap, ◌∙◌, add-one, arith, length-append, length-set}
+use Rattle.std.proofs.Common.{◌≡◌, ℕ, zero, suc, ◌+◌, ◌<◌, Bool, cond, ◌&&◌, eqb, ltb, [], ◌∷◌, length, set, Some, None, Ok, Err, Option, Result, sym, refl, ap, ◌∙◌, add-one, arith, length-append, length-set}
 use Rattle.std.proofs.lemmas.Bool.Decides.{nat_tests}
 use Rattle.base.specs.declared.fault.Fault.{Fault}
 use Rattle.terms.specs.declared.voters.Voters.{Voters}
 use Rattle.terms.specs.declared.calls.Changed.{Changed}
-use Rattle.terms.specs.Tests.{put, tally, ascending}
+use Rattle.terms.specs.Tests.{tally, ascending}
 use Rattle.protocol.specs.Outcomes.{settled}
 use Rattle.protocol.specs.State.{State}
 use Rattle.protocol.specs.Refusals.{change_refusal, last_epoch}
 use Rattle.protocol.specs.Steps.{recovered, recovered_jobs, change, changed}
 use Rattle.protocol.proofs.Same.{same_state, same_boxes}
 use Rattle.group.specs.declared.job_set.JobSet.{JobSet}
-use Rattle.group.specs.declared.job.Job.{Job}
 use Rattle.group.specs.declared.replica.Replica.{Replica}
 use Rattle.group.specs.Sets.{has, Has}
 use Rattle.group.specs.View.{Parts, seen, no_box, box_at}

@@ -1,5 +1,5 @@
 -- An answer that is heard: what the code does to the job is what the protocol does.
-use Rattle.std.proofs.Common.{◌≡◌, ℕ, ◌<◌, Bool, true, false, ◌&&◌, List, length, set, sym, refl, ap, ◌∙◌, arith, length-set}
+use Rattle.std.proofs.Common.{◌≡◌, ℕ, ◌<◌, List, length, set, refl, ap, ◌∙◌, arith, length-set}
 use Rattle.std.proofs.lemmas.Bool.Decides.{nat_tests}
 use Rattle.terms.specs.declared.answers.Answer.{Answer}
 use Rattle.terms.specs.declared.answers.Answer.TheVariants.{Transit, Heard}
@@ -10,7 +10,6 @@ use Rattle.protocol.specs.State.{State}
 use Rattle.protocol.specs.Steps.{hear, phase_after, answers_after}
 use Rattle.protocol.proofs.Same.{same_state, same_jobs, same_boxes}
 use Rattle.group.specs.declared.job.Job.{Job}
-use Rattle.group.specs.declared.replica.Replica.{Replica}
 use Rattle.group.specs.Jobs.{Holds, answer_of}
 use Rattle.group.specs.View.{Parts, seen, no_job, job_at}
 use Rattle.group.proofs.Held.{held}

@@ -1,17 +1,14 @@
 -- Messages to one box: what the code does to it is what the protocol does.
-use Rattle.std.proofs.Common.{◌≡◌, ℕ, ◌<◌, Bool, true, false, ◌||◌, List, length, get_or, set, Some, None, Option, sym, refl, ap, ◌∙◌, arith, length-set, get_or-set_same}
+use Rattle.std.proofs.Common.{◌≡◌, ℕ, ◌<◌, Bool, true, false, List, length, set, Some, None, sym, refl, ap, ◌∙◌, arith, length-set, get_or-set_same}
 use Rattle.std.proofs.lemmas.Bool.Decides.{nat_tests}
-use Rattle.base.specs.declared.fault.Fault.{Fault}
 use Rattle.base.specs.declared.fault.Refusal.TheVariants.{NotInTransit}
 use Rattle.base.specs.declared.fault.Layer.TheVariants.{Group}
 use Rattle.base.specs.Faults.{plain}
-use Rattle.base.specs.Meaning.{Meaning}
-use Rattle.terms.specs.Tests.{put, put2, tally}
-use Rattle.protocol.specs.State.{State, Fixed}
+use Rattle.terms.specs.Tests.{put, tally}
+use Rattle.protocol.specs.State.{State}
 use Rattle.protocol.specs.Refusals.{message_refusal}
 use Rattle.protocol.specs.Steps.{note, dropped, pool_size}
 use Rattle.protocol.proofs.Same.{same_state, same_boxes}
-use Rattle.group.specs.declared.job.Job.{Job}
 use Rattle.group.specs.declared.replica.Replica.{Replica}
 use Rattle.group.specs.Sets.{has, Has}
 use Rattle.group.specs.View.{Parts, seen, no_box, box_at}

@@ -1,18 +1,17 @@
 -- A new job: what the code does is what the protocol does.
-use Rattle.std.proofs.Common.{◌≡◌, ℕ, suc, ◌+◌, ◌<◌, min, Bool, List, [], ◌∷◌, ◌++◌, length, None, refl, ap, ◌∙◌, add-one, arith, length-append}
+use Rattle.std.proofs.Common.{◌≡◌, ℕ, ◌<◌, min, List, [], ◌∷◌, ◌++◌, length, None, refl, ap, add-one, arith, length-append}
 use Rattle.std.proofs.lemmas.Bool.Decides.{nat_tests}
 use Rattle.base.specs.declared.«record».Record.{Record}
 use Rattle.terms.specs.declared.answers.Answer.TheVariants.{Empty}
 use Rattle.terms.specs.declared.answers.Phase.TheVariants.{Waiting}
-use Rattle.protocol.specs.State.{State}
-use Rattle.protocol.specs.Refusals.{room_refusal, job_limit}
+use Rattle.protocol.specs.Refusals.{room_refusal}
 use Rattle.protocol.specs.Steps.{propose}
 use Rattle.protocol.proofs.Same.{same_state, same_jobs, same_boxes}
 use Rattle.group.specs.declared.job.Job.{Job}
 use Rattle.group.specs.declared.replica.Replica.{Replica}
 use Rattle.group.specs.Sets.{has, Requested}
 use Rattle.group.specs.Jobs.{Holds, answer_of}
-use Rattle.group.specs.View.{Parts, seen, no_job, job_at, box_at, AllBecame}
+use Rattle.group.specs.View.{Parts, seen, no_job, AllBecame}
 use Rattle.group.proofs.Held.{held}
 use Rattle.group.proofs.Places.{appended, appended_kept}
 use Rattle.group.proofs.Sending.{spread, unspread}

@@ -1,5 +1,5 @@
 -- A request that is taken: what the code does is what the protocol does.
-use Rattle.std.proofs.Common.{◌≡◌, ℕ, ◌<◌, Bool, true, false, ◌||◌, List, ◌++◌, length, set, sym, refl, ap, ◌∙◌, arith, length-set}
+use Rattle.std.proofs.Common.{◌≡◌, ℕ, ◌<◌, false, ◌||◌, List, ◌++◌, length, set, ap, ◌∙◌, length-set}
 use Rattle.base.specs.Meaning.{Meaning}
 use Rattle.terms.specs.declared.answers.Answer.TheVariants.{Transit}
 use Rattle.terms.specs.Tests.{put}

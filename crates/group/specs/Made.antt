@@ -1,5 +1,5 @@
 -- What making a group gives.
-use Rattle.std.specs.Prelude.{◌≡◌, ℕ, ◌<◌, false, List, length, Some, None, Ok, Err, vec_items, vec_len, Result, Vec}
+use Rattle.std.specs.Prelude.{◌≡◌, ℕ, ◌<◌, false, List, Some, None, Ok, Err, vec_items, vec_len, Result, Vec}
 use Rattle.std.specs.declared.alloc.Global.{Global}
 use Rattle.base.specs.Meaning.{Meaning}
 use Rattle.protocol.specs.declared.setting.Setting.{Setting}

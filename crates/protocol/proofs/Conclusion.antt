@@ -1,5 +1,5 @@
 -- The theorem, from the invariant.
-use Rattle.std.proofs.Common.{◌≡◌, ℕ, Bool, true, false, cond, ◌≢◌, ◌⊎◌, List, [], ◌∷◌, ◌++◌, Some, None, Option, sym, refl, ap, ◌∙◌, inl, inr, arith}
+use Rattle.std.proofs.Common.{◌≡◌, ℕ, Bool, true, false, cond, ◌≢◌, ◌⊎◌, List, [], ◌∷◌, ◌++◌, Some, None, Option, refl, ap, inl, inr, arith}
 use Rattle.base.specs.declared.fault.Fault.{Fault}
 use Rattle.protocol.specs.Outcomes.{unless_refused}
 use Rattle.terms.specs.Tests.{mem}
@@ -8,7 +8,7 @@ use Rattle.terms.specs.declared.answers.Answer.TheVariants.{Transit}
 use Rattle.terms.specs.declared.answers.Phase.TheVariants.{Fast}
 use Rattle.base.specs.Meaning.{Meaning, Laws}
 use Rattle.protocol.specs.declared.setting.Setting.{Setting}
-use Rattle.protocol.specs.State.{State, meets, new_group}
+use Rattle.protocol.specs.State.{State, meets}
 use Rattle.terms.specs.declared.calls.Call.{Call}
 use Rattle.terms.specs.declared.calls.Call.TheVariants.{Receive}
 use Rattle.protocol.proofs.Said.{said}

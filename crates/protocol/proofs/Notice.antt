@@ -1,5 +1,5 @@
 -- A notice keeps the invariant: it empties a pool only of a job that is in the log.
-use Rattle.std.proofs.Common.{◌≡◌, ℕ, true, refl, arith}
+use Rattle.std.proofs.Common.{◌≡◌, ℕ, true, arith}
 use Rattle.std.proofs.lemmas.Bool.Decides.{nat_tests}
 use Rattle.base.specs.Meaning.{Meaning}
 use Rattle.protocol.specs.State.{State}

@@ -1,6 +1,6 @@
 -- Two states whose fields agree at every place are equal: how code meets the definitions, place by place.
 use Rattle.std.proofs.Common.{◌≡◌, ℕ}
-use Rattle.protocol.specs.State.{State, Fixed, Lead, Jobs, Boxes}
+use Rattle.protocol.specs.State.{State, Jobs, Boxes}
 
 pub record SameJobs (s s' : Jobs) : Type 0 where
   pub count : s.count ≡ s'.count

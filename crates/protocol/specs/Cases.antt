@@ -1,7 +1,6 @@
 -- Worked cases, computed over the definitions.
 use Rattle.std.specs.Prelude.{◌≡◌, ℕ, true, false, List, [], ◌∷◌}
 use Rattle.books.specs.Cases.{ClashCases}
-use Rattle.protocol.specs.declared.setting.Setting.{Setting}
 use Rattle.terms.specs.declared.calls.Call.{Call}
 use Rattle.terms.specs.declared.calls.Call.TheVariants.{Propose, Receive}
 use Rattle.terms.specs.declared.voters.Voters.{Voters}

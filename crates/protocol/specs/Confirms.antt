@@ -1,7 +1,6 @@
 -- Confirmations do happen: on one box to nine, a job that every box receives and answers becomes fast.
 use Rattle.std.specs.Prelude.{◌≡◌, ℕ, zero, suc, true, List, [], ◌∷◌, ◌++◌, None}
 use Rattle.base.specs.Meaning.{Meaning}
-use Rattle.protocol.specs.declared.setting.Setting.{Setting}
 use Rattle.terms.specs.declared.calls.Call.{Call}
 use Rattle.terms.specs.declared.calls.Call.TheVariants.{Propose, Receive, Hear}
 use Rattle.terms.specs.declared.answers.Phase.{Phase}

@@ -1,12 +1,10 @@
 -- Where each call is refused, and with what; the lowest number that applies comes first.
-use Rattle.std.specs.Prelude.{ℕ, min, Bool, true, false, cond, not, ◌||◌, List, [], ◌∷◌, length, Some, None, Option, ◌==◌, nat_le}
+use Rattle.std.specs.Prelude.{ℕ, min, Bool, cond, List, [], ◌∷◌, length, Some, None, Option, ◌==◌, nat_le}
 use Rattle.base.specs.declared.fault.Fault.{Fault}
 use Rattle.base.specs.declared.fault.Refusal.{Refusal}
 use Rattle.base.specs.declared.fault.Refusal.TheVariants.{BadLeader, Full, NoReplica, NoJob, NotInTransit, NothingWaits, WrongVoters, LastEpoch}
 use Rattle.base.specs.declared.fault.Layer.TheVariants.{Group}
-use Rattle.base.specs.declared.«record».Record.{Record}
 use Rattle.base.specs.Faults.{plain, misfit_at, log_full}
-use Rattle.base.specs.Meaning.{Meaning}
 use Rattle.terms.specs.declared.voters.Voters.{Voters}
 use Rattle.protocol.specs.Counts.{electing}
 use Rattle.terms.specs.Votes.{vote_count, has_stranger}

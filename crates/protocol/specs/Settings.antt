@@ -1,5 +1,5 @@
 -- Which settings a group is made with: an odd size from 1 to 9, and a leader inside it.
-use Rattle.std.specs.Prelude.{ℕ, ◌%◌, cond, Some, None, Option, ◌==◌, nat_le, nat_lt}
+use Rattle.std.specs.Prelude.{◌%◌, cond, Some, None, Option, ◌==◌, nat_le, nat_lt}
 use Rattle.base.specs.declared.fault.Fault.{Fault}
 use Rattle.base.specs.declared.fault.Refusal.TheVariants.{BadSize, BadLeader}
 use Rattle.base.specs.declared.fault.Layer.TheVariants.{Group}

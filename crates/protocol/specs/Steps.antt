@@ -1,5 +1,5 @@
 -- What each call does where it is not refused, and what it tells.
-use Rattle.std.specs.Prelude.{ℕ, zero, suc, ◌+◌, Bool, true, false, cond, not, ◌&&◌, ◌||◌, List, [], ◌∷◌, ◌++◌, length, Some, None, Option, ◌==◌, nat_le, nat_lt}
+use Rattle.std.specs.Prelude.{ℕ, suc, Bool, true, false, cond, not, ◌&&◌, ◌||◌, List, [], ◌∷◌, ◌++◌, length, Some, None, Option, ◌==◌, nat_le, nat_lt}
 use Rattle.base.specs.declared.«record».Record.{Record}
 use Rattle.base.specs.Meaning.{Meaning}
 use Rattle.terms.specs.declared.answers.Reply.{Reply}
@@ -19,7 +19,7 @@ use Rattle.protocol.specs.Counts.{recovering}
 use Rattle.terms.specs.Votes.{votes}
 use Rattle.terms.specs.Written.{told_of}
 use Rattle.protocol.specs.Answers.{delivered, decide}
-use Rattle.protocol.specs.State.{State, Fixed, Lead, Jobs, Boxes, meets}
+use Rattle.protocol.specs.State.{State, meets}
 
 -- the place of c in a list, counted from 1
 abbrev pub place_after : ℕ → ℕ → List ℕ → Option ℕ

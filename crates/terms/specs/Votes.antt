@@ -1,5 +1,5 @@
 -- A set of voters: some of the digits 0 to 9.
-use Rattle.std.specs.Prelude.{ℕ, Bool, true, false, cond, ◌&&◌, set, replicate, nat_le, nat_lt, slice_index_or, slice_set}
+use Rattle.std.specs.Prelude.{ℕ, Bool, true, false, cond, ◌&&◌, replicate, nat_le, nat_lt, slice_index_or, slice_set}
 use Rattle.terms.specs.declared.voters.Voters.{Voters}
 use Rattle.terms.specs.Tests.{tally, any_below}
 

@@ -13,7 +13,7 @@ use Rattle.week.specs.declared.event.Outcome.{Outcome}
 use Rattle.week.specs.declared.event.Outcome.TheVariants.{Started}
 use Rattle.week.specs.declared.event.Event.TheVariants.{Told}
 use Rattle.week.specs.Reports.{line_for}
-use Rattle.week.specs.Runs.{ends, answered, outcome, later, opened}
+use Rattle.week.specs.Runs.{ends, answered, outcome, later}
 use Rattle.week.specs.Retold.{Says, ReportsTellHistory}
 
 -- no call ends a run

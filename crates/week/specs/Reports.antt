@@ -1,5 +1,5 @@
 -- The report's line for each line run: its number, then fields, each after a tab, then byte 10.
-use Rattle.std.specs.Prelude.{ℕ, cond, ◌||◌, List, [], ◌∷◌, ◌++◌, length, drop, Some, None, Ok, Err, decimal, Option, Result, nat_lt}
+use Rattle.std.specs.Prelude.{ℕ, cond, List, [], ◌∷◌, ◌++◌, length, drop, Some, None, Ok, Err, decimal, Option, Result, nat_lt}
 use Rattle.base.specs.declared.fault.Fault.{Fault}
 use Rattle.base.specs.declared.fault.Refusal.TheVariants.{ShortBuffer}
 use Rattle.base.specs.Faults.{number_of}

@@ -1,4 +1,4 @@
-use Rattle.std.proofs.Common.{◌≡◌, ◌&&◌, ap, ◌∙◌, arith}
+use Rattle.std.proofs.Common.{◌&&◌, ap, ◌∙◌, arith}
 use Rattle.terms.specs.Votes.{votes}
 use Rattle.terms.proofs.Counting.{tally_more}
 use Rattle.group.specs.declared.replica.Replica.{Replica}

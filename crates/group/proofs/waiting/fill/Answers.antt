@@ -1,4 +1,4 @@
-use Rattle.std.proofs.Common.{◌≡◌, ◌∙◌, append-nil, arith}
+use Rattle.std.proofs.Common.{append-nil, arith}
 use Rattle.group.specs.Sets.{has}
 use Rattle.group.proofs.Queues.{ascending_more}
 use Rattle.group.proofs.waiting.fill.Goals.{then-has, else-has}

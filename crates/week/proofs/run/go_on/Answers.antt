@@ -1,4 +1,4 @@
-use Rattle.std.proofs.Common.{◌≡◌, ◌<◌, length, sym, arith}
+use Rattle.std.proofs.Common.{sym, arith}
 use Rattle.group.specs.View.{view}
 use Rattle.week.proofs.Running.{filled_by, empty_by, goes_on, stops, shorter, no_more}
 use Rattle.week.proofs.run.go_on.Goals as goal

@@ -1,4 +1,4 @@
-use Rattle.std.proofs.Common.{◌≡◌, ◌<◌, length, ap, ◌∙◌, rules}
+use Rattle.std.proofs.Common.{◌<◌, length, ap, ◌∙◌, rules}
 use Rattle.books.specs.Tables.{put}
 use Rattle.books.specs.Weeks.{hours_of, timetable_of, no_week}
 use Rattle.books.specs.TablesLemmas.{read_set}

@@ -1,4 +1,4 @@
-use Rattle.std.proofs.Common.{◌≡◌, ℕ, ◌+◌, ◌<◌, ◌≤◌, Bool, true, List, length, set, sym, ap, ◌∙◌, subst, arith}
+use Rattle.std.proofs.Common.{◌≡◌, ℕ, ◌+◌, true, List, length, set, sym, ap, ◌∙◌, subst, arith}
 use Rattle.terms.specs.Tests.{tally, ascending, all_below}
 use Rattle.protocol.specs.Refusals.{change_refusal}
 use Rattle.protocol.specs.Steps.{change, changed}

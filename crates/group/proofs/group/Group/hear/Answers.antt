@@ -1,5 +1,4 @@
-use Rattle.std.proofs.Common.{◌≡◌, ◌<◌, Bool, true, false, length, Some, None, Err, sym, ap, ◌∙◌, subst, arith}
-use Rattle.std.proofs.lemmas.Bool.Decides.{nat_tests}
+use Rattle.std.proofs.Common.{◌≡◌, false, length, Some, None, Err, sym, ap, ◌∙◌, subst, arith}
 use Rattle.terms.specs.declared.answers.Answer.{Answer}
 use Rattle.terms.specs.declared.answers.Answer.TheVariants.{Transit, Heard}
 use Rattle.terms.specs.declared.answers.Reply.{Reply}

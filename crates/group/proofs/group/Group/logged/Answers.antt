@@ -1,4 +1,4 @@
-use Rattle.std.proofs.Common.{◌≡◌, is_some, sym, ap, ◌∙◌}
+use Rattle.std.proofs.Common.{is_some, ap, ◌∙◌}
 use Rattle.group.proofs.Logged.{has_place}
 use Rattle.group.proofs.group.Group.logged.Goals as goal
 

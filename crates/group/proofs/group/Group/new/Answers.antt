@@ -1,5 +1,4 @@
-use Rattle.std.proofs.Common.{◌≡◌, ℕ, ◌<◌, List, [], length, sym, ap, ◌∙◌, arith}
-use Rattle.protocol.specs.State.{new_group}
+use Rattle.std.proofs.Common.{◌≡◌, length, sym, ◌∙◌, arith}
 use Rattle.protocol.specs.Settings.{setting_refusal}
 use Rattle.group.specs.View.{seen}
 use Rattle.group.proofs.Changing.{settled_ok}

@@ -1,10 +1,10 @@
-use Rattle.std.proofs.Common.{◌≡◌, true, false, length, sym, ap, ◌∙◌, subst, rules}
+use Rattle.std.proofs.Common.{◌≡◌, true, false, length, sym, ap, ◌∙◌, subst}
 use Rattle.terms.specs.Tests.{put, tally}
 use Rattle.protocol.specs.Refusals.{notice_refusal}
-use Rattle.protocol.specs.Steps.{note, pool_size}
+use Rattle.protocol.specs.Steps.{note}
 use Rattle.group.specs.declared.replica.Replica.{Replica}
 use Rattle.group.specs.Sets.{has, Has}
-use Rattle.group.specs.View.{view, parts, seen, no_box, box_at}
+use Rattle.group.specs.View.{parts, seen, no_box, box_at}
 use Rattle.group.proofs.Places.{read_any}
 use Rattle.group.proofs.Accepted.{step_made, told}
 use Rattle.group.proofs.Noting.{under_way, note_moves, pool_written}

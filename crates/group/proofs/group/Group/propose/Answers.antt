@@ -1,4 +1,4 @@
-use Rattle.std.proofs.Common.{◌≡◌, ℕ, ◌<◌, ◌≤◌, min, Bool, true, List, length, Some, None, Ok, Option, Result, sym, ap, ◌∙◌, subst, arith}
+use Rattle.std.proofs.Common.{◌≡◌, ℕ, ◌<◌, min, List, length, None, Ok, Option, Result, sym, ap, ◌∙◌, subst, arith}
 use Rattle.base.specs.declared.fault.Fault.{Fault}
 use Rattle.books.specs.Accepted.{accepted}
 use Rattle.protocol.specs.State.{State}
@@ -8,7 +8,7 @@ use Rattle.std.specs.Vec.{with_items}
 use Rattle.std.proofs.lemmas.List.{with_items_is}
 use Rattle.group.specs.declared.replica.Replica.{Replica}
 use Rattle.group.specs.Sets.{Requested}
-use Rattle.group.specs.View.{view, parts, seen, AllBecame}
+use Rattle.group.specs.View.{parts, seen, AllBecame}
 use Rattle.group.proofs.Queues.{below_more}
 use Rattle.group.proofs.Held.{held}
 use Rattle.group.proofs.Accepted.{step_made, told}

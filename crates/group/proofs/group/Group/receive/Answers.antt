@@ -1,11 +1,11 @@
-use Rattle.std.proofs.Common.{◌≡◌, Bool, true, false, cond, sym, ap, ◌∙◌, subst, rules}
+use Rattle.std.proofs.Common.{◌≡◌, true, false, cond, sym, ap, ◌∙◌, subst}
 use Rattle.terms.specs.declared.calls.Received.TheVariants.{Dropped}
 use Rattle.terms.specs.Tests.{put}
 use Rattle.protocol.specs.Refusals.{receive_refusal}
 use Rattle.protocol.specs.Steps.{drops, dropped, take, reply, verdict}
 use Rattle.group.specs.declared.replica.Replica.{Replica}
 use Rattle.group.specs.Sets.{has, Has}
-use Rattle.group.specs.View.{view, parts, seen, no_box, box_at}
+use Rattle.group.specs.View.{parts, seen, no_box, box_at}
 use Rattle.group.proofs.Places.{read_any}
 use Rattle.group.proofs.Accepted.{step_made, told}
 use Rattle.group.proofs.Noting.{under_way, drop_moves}

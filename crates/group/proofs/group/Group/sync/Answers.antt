@@ -1,16 +1,13 @@
-use Rattle.std.proofs.Common.{◌≡◌, ℕ, ◌<◌, Bool, true, false, cond, List, [], ◌∷◌, ◌++◌, length, set, Some, Option, sym, ap, ◌∙◌, subst, arith}
+use Rattle.std.proofs.Common.{◌≡◌, ℕ, ◌<◌, List, [], ◌∷◌, ◌++◌, length, set, Some, sym, ap, ◌∙◌, subst, arith}
 use Rattle.std.specs.Vec.{with_items}
 use Rattle.std.proofs.lemmas.List.{with_items_is}
-use Rattle.base.specs.declared.«record».Record.{Record}
-use Rattle.terms.specs.declared.calls.Synced.{Synced}
-use Rattle.protocol.specs.State.{State}
 use Rattle.protocol.specs.Refusals.{sync_refusal}
 use Rattle.protocol.specs.Steps.{sync, synced, told_result, log_job}
 use Rattle.group.specs.declared.job.Job.{Job}
 use Rattle.group.specs.declared.replica.Replica.{Replica}
 use Rattle.group.specs.Sets.{Notified, rest_of}
 use Rattle.group.specs.Jobs.{Holds, answer_of}
-use Rattle.group.specs.View.{Parts, view, parts, seen, no_job, job_at, AllBecame}
+use Rattle.group.specs.View.{Parts, parts, seen, no_job, job_at, AllBecame}
 use Rattle.group.proofs.Places.{read_any}
 use Rattle.group.proofs.Accepted.{step_made, told}
 use Rattle.group.proofs.Syncing.{head_first, head_below, log_took, may_sync, sync_moves}

@@ -1,14 +1,14 @@
-use Rattle.std.proofs.Common.{◌≡◌, ℕ, ◌<◌, ◌≤◌, Bool, true, false, cond, not, ◌&&◌, ◌||◌, eqb, List, [], ◌∷◌, ◌++◌, length, sym, ap, ◌∙◌, subst, arith}
+use Rattle.std.proofs.Common.{◌≡◌, ℕ, ◌<◌, Bool, true, false, cond, not, ◌&&◌, ◌||◌, eqb, [], ◌∷◌, sym, ap, ◌∙◌, subst, arith}
 use Rattle.std.proofs.lemmas.Bool.Decides.{nat_tests}
 use Rattle.terms.specs.declared.answers.Answer.TheVariants.{Transit}
 use Rattle.terms.specs.declared.answers.Reply.{Reply}
 use Rattle.terms.specs.Tests.{mem, put, all_below}
-use Rattle.protocol.specs.Steps.{pools, reply, verdict}
+use Rattle.protocol.specs.Steps.{verdict}
 use Rattle.group.specs.declared.job.Job.{Job}
 use Rattle.group.specs.declared.replica.Replica.{Replica}
 use Rattle.group.specs.Sets.{has, Has}
 use Rattle.group.specs.Jobs.{Holds, answer_of}
-use Rattle.group.specs.View.{view, parts, seen, no_box, no_job, box_at, job_at}
+use Rattle.group.specs.View.{parts, seen, no_box, no_job, box_at, job_at}
 use Rattle.group.proofs.Places.{read_any}
 use Rattle.group.proofs.Queues.{below_append}
 use Rattle.group.proofs.Receiving.{take_moves}

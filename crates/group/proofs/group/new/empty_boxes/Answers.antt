@@ -1,4 +1,4 @@
-use Rattle.std.proofs.Common.{◌≡◌, ℕ, ◌+◌, ◌<◌, ◌≤◌, List, [], ◌∷◌, ◌++◌, length, sym, ◌∙◌, subst, arith, rules}
+use Rattle.std.proofs.Common.{◌≡◌, ◌+◌, List, [], ◌∷◌, ◌++◌, sym, subst, arith, rules}
 use Rattle.group.specs.declared.replica.Replica.{Replica}
 use Rattle.group.specs.View.{box_at}
 use Rattle.group.proofs.Making.{EmptyBox, one_box_more}

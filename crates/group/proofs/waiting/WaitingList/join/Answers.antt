@@ -1,4 +1,4 @@
-use Rattle.std.proofs.Common.{◌≡◌, ◌<◌, true, false, length, vec_items, sym, ◌∙◌, subst, arith}
+use Rattle.std.proofs.Common.{◌≡◌, true, false, sym, ◌∙◌, subst, arith}
 use Rattle.terms.specs.Tests.{mem, distinct, all_below}
 use Rattle.group.proofs.Queues.{room_for, joined_once, joined_below}
 use Rattle.group.proofs.waiting.WaitingList.join.Goals as goal
