@@ -5,8 +5,8 @@ ghost use Rattle.terms.specs.Tests.{put};
 ghost use Rattle.protocol.specs.Answers.{decide};
 ghost use Rattle.group.specs.Jobs.{Holds, answer_of, transit_of};
 
+use crate::client::decision;
 use base::Record;
-use client::decision;
 use terms::{Answer, Phase, Reply};
 
 // One job: its record, every box's answer, where its client stands, and the result that the log gave.
@@ -67,7 +67,7 @@ impl Job {
         Job {
             record: self.record,
             answers,
-            phase: decision(answers, size as u32, self.phase),
+            phase: decision(answers, size, self.phase),
             given: self.given,
         }
     }

@@ -1,5 +1,6 @@
 #![tactic(auto)]
 
+mod client;
 mod group;
 mod job;
 mod job_set;

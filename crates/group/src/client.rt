@@ -1,13 +1,11 @@
-#![tactic(auto)]
-
-ghost use Rattle.std.specs.Prelude.{◌≡◌, slice_index_or};
+ghost use Rattle.std.specs.Prelude.{◌≡◌, ℕ, ◌≤◌, slice_index_or};
 ghost use Rattle.terms.specs.declared.answers.Answer.TheVariants.{Empty};
 ghost use Rattle.protocol.specs.Answers.{agrees, heard, declined, agreeing, declining, decide, by_told};
 
 use protocol::{blocking, fast_quorum};
 use terms::{Answer, Phase, Reply};
 
-// What a job's client makes of the answers it has heard, among the first `size` boxes. There are answers of nine boxes at most.
+// What a job's client makes of the answers it has heard, among the first `size` boxes.
 
 fn agrees_in(answer: Answer, epoch: u32) -> bool
     ensures { result ≡ agrees epoch (heard answer) }
@@ -29,11 +27,12 @@ fn declines(answer: Answer) -> bool
 }
 
 // How many answers agree in the epoch.
-fn count_agreeing(answers: [Answer; 9], size: u32, epoch: u32) -> u32
+fn count_agreeing(answers: [Answer; 9], size: usize, epoch: u32) -> u32
+    requires { size ≤ 9 }
     ensures { result ≡ agreeing size (λ b. slice_index_or answers b Empty) epoch }
 {
     let mut n = 0;
-    for b in 0..size.min(9) as usize {
+    for b in 0..size {
         if agrees_in(answers[b], epoch) {
             n += 1;
         }
@@ -42,11 +41,12 @@ fn count_agreeing(answers: [Answer; 9], size: u32, epoch: u32) -> u32
 }
 
 // How many answers are no.
-fn count_declining(answers: [Answer; 9], size: u32) -> u32
+fn count_declining(answers: [Answer; 9], size: usize) -> u32
+    requires { size ≤ 9 }
     ensures { result ≡ declining size (λ b. slice_index_or answers b Empty) }
 {
     let mut n = 0;
-    for b in 0..size.min(9) as usize {
+    for b in 0..size {
         if declines(answers[b]) {
             n += 1;
         }
@@ -65,13 +65,14 @@ fn heard_reply(answer: Answer) -> Reply
 }
 
 // A told result is confirmed where enough answers of its epoch agree.
-fn confirm(answers: [Answer; 9], size: u32, reply: Reply, other: Phase) -> Phase
+fn confirm(answers: [Answer; 9], size: usize, reply: Reply, other: Phase) -> Phase
+    requires { size ≤ 9 }
     ensures { result ≡ by_told size (λ b. slice_index_or answers b Empty) reply other }
 {
     let Reply::Told { epoch, result } = reply else {
         return other;
     };
-    if count_agreeing(answers, size, epoch) >= fast_quorum(size) {
+    if count_agreeing(answers, size, epoch) >= fast_quorum(size as u32) {
         Phase::Fast { result, epoch }
     } else {
         other
@@ -79,17 +80,18 @@ fn confirm(answers: [Answer; 9], size: u32, reply: Reply, other: Phase) -> Phase
 }
 
 // The phase after what was heard; a settled one stays.
-pub fn decision(answers: [Answer; 9], size: u32, now: Phase) -> Phase
+pub(crate) fn decision(answers: [Answer; 9], size: usize, now: Phase) -> Phase
+    requires { size ≤ 9 }
     ensures { result ≡ decide size (λ b. slice_index_or answers b Empty) now }
 {
     let Phase::Waiting = now else {
         return now;
     };
     let mut phase = Phase::Waiting;
-    if count_declining(answers, size) >= blocking(size) {
+    if count_declining(answers, size) >= blocking(size as u32) {
         phase = Phase::Slow;
     }
-    for b in 0..size.min(9) as usize {
+    for b in 0..size {
         phase = confirm(answers, size, heard_reply(answers[b]), phase);
     }
     phase
