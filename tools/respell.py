@@ -2,7 +2,7 @@
 """respell [FOLDER]: gives the repository's own definitions and lemmas the library's spelling, in every file that names them.
 
 A name that says a type, with a capital first, goes to camel case: Waits-first becomes WaitsFirst. Any other goes to snake
-case: change-refusal becomes change_refusal, commitMsgs becomes commit_msgs. The names of src/, of goals and of what the
+case: change-refusal becomes change_refusal, commitMsgs becomes commit_msgs. So does the name under which a file imports one. The names of src/, of goals and of what the
 check makes stay. It says what it renamed, and stops before it writes where two names would fall together in one module.
 Must-fail edits and the names that pages quote in backticks follow. A second run changes nothing."""
 import collections
@@ -39,6 +39,16 @@ def antt_files(top):
 
 def rt_files(top):
     return sorted(glob.glob(f"{top}/crates/*/src/**/*.rt", recursive=True))
+
+
+def imported_words(top):
+    """Words that a file imports under the name of a type, with what they should be: allowed as AllowedOf."""
+    words = {}
+    for path in antt_files(top) + rt_files(top):
+        for line in open(path, encoding="utf-8"):
+            for it in re.findall(r"\b[a-z]\w* as ([A-Z]\w*)", line) if USE.match(line) else []:
+                words[it] = re.sub(r"(?<=[a-z0-9])([A-Z])", lambda big: "_" + big[1].lower(), it[0].lower() + it[1:])
+    return words
 
 
 def own_names(top):
@@ -83,6 +93,7 @@ def main():
     own, goals = own_names(top)
     made = borrowed(top)
     new = {it: respelled(it) for it in own if respelled(it) != it and it not in made}
+    new |= {it: to for it, to in imported_words(top).items() if to not in own}
     for name in sorted(goals & set(own)):
         print(f"look: {name} names a goal too")
     together = False

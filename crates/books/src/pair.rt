@@ -29,7 +29,6 @@ impl<A: Book, B: Book> Book for Pair<A, B> {
 
     ghost meaning = { paired A.Book.meaning B.Book.meaning };
 
-    // src/pair.rt
     ghost lawful = { paired_laws A.Book.meaning B.Book.meaning A.Book.lawful B.Book.lawful };
 
     fn fresh() -> Pair<A, B> {

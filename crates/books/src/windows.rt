@@ -48,7 +48,6 @@ impl Book for Windows {
 
     ghost meaning = { windows };
 
-    // src/windows.rt
     ghost lawful = { fitting_laws _ (λ a b. Prim.grind (arith, nat_tests))
         (λ s a b _ _ h.
         ap (λ n. (if nat_eq a.act freeing then n else (if nat_eq n 0 then 1 else 0)))

@@ -1,7 +1,7 @@
 ghost use Rattle.std.specs.Prelude.{◌≡◌, ◌≤◌, true, false, length, MatchResult};
 ghost use Rattle.base.specs.declared.fault.Refusal.TheVariants.{BadLine};
 ghost use Rattle.lines.specs.Faults.{refused as refused_of};
-ghost use Rattle.lines.specs.Forms.{allowed as AllowedOf, fits, body as body_of};
+ghost use Rattle.lines.specs.Forms.{allowed as allowed_of, fits, body as body_of};
 ghost use Rattle.lines.specs.Limits.{longest};
 
 use crate::fault::refused;
@@ -10,7 +10,7 @@ use base::{Fault, Refusal};
 
 // A byte that a line may have before its end.
 fn allowed(b: u8) -> bool
-    ensures { result ≡ AllowedOf b }
+    ensures { result ≡ allowed_of b }
 {
     matches!(b, b'\t' | b'0'..=b'9' | b'A'..=b'Z')
 }

@@ -25,7 +25,7 @@ module _ {S : Type 0} (m : Meaning S) (C : Constants) where
   abbrev pub uncommitted_cmds_has_conflict : Model S → ℕ → Bool
   uncommitted_cmds_has_conflict s cmd = not (GetIdxInSeq s.uncommitted_cmds (same_key m s cmd) == 0)
 
-  -- 4. published: ¬spec_pool_has_conflict
+  -- 4. published: ¬specPoolHasConflict
   abbrev pub pool_takes : Model S → ℕ → ℕ → Bool
   pool_takes s r cmd = C.fast && not (spec_pool_has_conflict s r cmd)
 
@@ -107,7 +107,7 @@ module _ {S : Type 0} (m : Meaning S) (C : Constants) where
     pub commits_taken_is : s'.commits_taken ≡ s.commits_taken EXCEPT![ r ]= (s.commits_taken r ∪ ｛ cmd ｝)
     pub also : UNCHANGED (content ∷ book ∷ given ∷ answers ∷ phase ∷ []) s s'
 
-  -- UNION {spec_pools[r] : r ∈ q}
+  -- UNION {specPools[r] : r ∈ q}
   abbrev pub spec_cmds : Model S → Set → Set
   spec_cmds s q cmd = any_below C.replica_count (λ r. q r && s.spec_pools r cmd)
 

@@ -22,7 +22,7 @@ module _ {S : Type 0} (m : Meaning S) (C : Constants) (s : Model S) where
   abbrev pub idx : ℕ → ℕ
   idx cmd = GetIdxInSeq s.committed_cmds (nat_eq cmd)
 
-  -- SubSeq(committed_cmds, 1, idx - 1)
+  -- SubSeq(committedCmds, 1, idx - 1)
   abbrev pub prev_exec_cmds : ℕ → List ℕ
   prev_exec_cmds cmd = take (idx cmd - 1) s.committed_cmds
 

@@ -1,4 +1,4 @@
--- The constants and variables of the published model, by its names, and the variables that the amendments add.
+-- The constants and variables of the published model, by its names in snake case, and the variables that the amendments add.
 use Rattle.std.specs.Prelude.{◌≡◌, ℕ, ◌+◌, ◌/◌, Bool, List, [], ◌∷◌, Option, ◌==◌, nat_le, nat_lt}
 use Rattle.base.specs.declared.«record».Record.{Record}
 use Rattle.terms.specs.declared.answers.Answer.{Answer}
