@@ -46,8 +46,8 @@ def imported_words(top):
     words = {}
     for path in antt_files(top) + rt_files(top):
         for line in open(path, encoding="utf-8"):
-            for it in re.findall(r"\b[a-z]\w* as ([A-Z]\w*)", line) if USE.match(line) else []:
-                words[it] = re.sub(r"(?<=[a-z0-9])([A-Z])", lambda big: "_" + big[1].lower(), it[0].lower() + it[1:])
+            for it in re.findall(r"\b[a-z]\w* as ([A-Z][\w-]*)", line) if USE.match(line) else []:
+                words[it] = respelled(re.sub(r"(?<=[a-z0-9])([A-Z])", lambda big: "_" + big[1].lower(), it[0].lower() + it[1:]))
     return words
 
 
