@@ -2,9 +2,10 @@
 """respell [FOLDER]: gives the repository's own definitions and lemmas the library's spelling, in every file that names them.
 
 A name that says a type, with a capital first, goes to camel case: Waits-first becomes WaitsFirst. Any other goes to snake
-case: change-refusal becomes change_refusal, commitMsgs becomes commit_msgs. So does the name under which a file imports one. The names of src/, of goals and of what the
-check makes stay. It says what it renamed, and stops before it writes where two names would fall together in one module.
-Must-fail edits and the names that pages quote in backticks follow. A second run changes nothing."""
+case: change-refusal becomes change_refusal, commitMsgs becomes commit_msgs. So does the name under which a file imports
+one. The names of src/, of goals and of what the check makes stay. It says how many it renamed, and stops before it writes
+where two names would fall together in one file. Must-fail edits and the names that pages quote in backticks follow, but
+for docs/PORT.md, which has the old names beside the new. A second run changes nothing."""
 import collections
 import glob
 import os
@@ -109,7 +110,8 @@ def main():
         rewrite(path, lambda text: tokens(text, new))
     for path in sorted(glob.glob(f"{top}/crates/*/must-fail/*.edit")):
         rewrite(path, lambda text: tokens(text, edits))
-    for path in sorted(glob.glob(f"{top}/docs/*.md") + [f"{top}/README.md"]):
+    pages = sorted(set(glob.glob(f"{top}/docs/*.md")) - {f"{top}/docs/PORT.md"}) + [f"{top}/README.md"]
+    for path in pages:
         rewrite(path, lambda text: re.sub(r"`[^`\n]+`", lambda it: tokens(it[0], edits), text))
     print(f"{len(new)} names respelled")
     return 0
