@@ -37,9 +37,13 @@ name_of Text = codes "text"
 abbrev pub plain : Refusal → Layer → Fault
 plain n l = record { number = n; field = None; layer = l }
 
+-- a refusal that is about the field at a place
+abbrev pub about : ℕ → Refusal → Layer → Fault
+about f n l = record { number = n; field = Some f; layer = l }
+
 -- a record that does not fit its book, by its first wrong field
 abbrev pub misfit_at : ℕ → Fault
-misfit_at f = record { number = Misfit; field = Some f; layer = Book }
+misfit_at f = about f Misfit Book
 
 -- a log that is full
 abbrev pub log_full : Fault

@@ -1,5 +1,5 @@
 ghost use Rattle.std.specs.Prelude.{◌≡◌};
-ghost use Rattle.base.specs.Faults.{number_of, name_of, misfit_at, plain};
+ghost use Rattle.base.specs.Faults.{number_of, name_of, misfit_at, plain, about};
 
 // Why a call or a line was refused.
 #[derive(Clone, Copy, PartialEq, Eq, Debug)]
@@ -23,12 +23,12 @@ pub enum Refusal {
     LongFile = 17,
 }
 
-impl Refusal {
-    // The number that reports and callers know the refusal by.
-    pub fn number(self) -> u8
-        ensures { result ≡ number_of self }
-    {
-        self as u8
+// The number that reports and callers know the refusal by.
+impl From<Refusal> for u32 {
+    ghost from_gives = { λ refusal number. number ≡ number_of refusal };
+
+    fn from(refusal: Refusal) -> u32 {
+        refusal as u32
     }
 }
 
@@ -42,6 +42,7 @@ pub enum Layer {
 }
 
 impl Layer {
+    // A method, since `<&str>::from(layer)` would say no more, and `Display` needs memory for its text.
     pub fn name(self) -> &'static str
         ensures { result.now ≡ name_of self }
     {
@@ -75,14 +76,21 @@ impl Fault {
         }
     }
 
+    // A refusal that is about the field at this place.
+    pub fn at(field: u8, number: Refusal, layer: Layer) -> Fault
+        ensures { result ≡ about field number layer }
+    {
+        Fault {
+            number,
+            field: Some(field),
+            layer,
+        }
+    }
+
     // A record that its book doesn't take, by the first field that is wrong.
     pub fn misfit(field: u8) -> Fault
         ensures { result ≡ misfit_at field }
     {
-        Fault {
-            number: Refusal::Misfit,
-            field: Some(field),
-            layer: Layer::Book,
-        }
+        Fault::at(field, Refusal::Misfit, Layer::Book)
     }
 }

@@ -1,5 +1,5 @@
 // One job as five whole numbers. What they mean is the book's to say.
-#[derive(Clone, Copy, PartialEq, Eq, Debug)]
+#[derive(Clone, Copy, PartialEq, Eq, Debug, Default)]
 pub struct Record {
     pub book: u32,
     pub act: u32,
@@ -8,7 +8,8 @@ pub struct Record {
     pub z: u32,
 }
 
-// The place of each number in a written job, where the job's letter is at place 1.
+// The place of each number in a written job, where the job's letter is at place 1: a number and no kind,
+// since lines have fields at these places too.
 impl Record {
     pub const BOOK: u8 = 2;
 

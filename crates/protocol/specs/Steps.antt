@@ -9,7 +9,7 @@ use Rattle.terms.specs.declared.answers.Answer.TheVariants.{Transit}
 use Rattle.terms.specs.declared.answers.Phase.{Phase}
 use Rattle.terms.specs.declared.answers.Phase.TheVariants.{Waiting}
 use Rattle.terms.specs.declared.calls.Received.{Received}
-use Rattle.terms.specs.declared.calls.Received.TheVariants.{Yes as SaidYes, No as SaidNo, Dropped}
+use Rattle.terms.specs.declared.calls.Received.TheVariants.{Dropped}
 use Rattle.terms.specs.declared.calls.Synced.{Synced}
 use Rattle.terms.specs.declared.calls.Changed.{Changed}
 use Rattle.terms.specs.declared.calls.Status.{Status}
@@ -18,6 +18,8 @@ use Rattle.terms.specs.Tests.{tally, any_below, any_of, ascending, mem, put, put
 use Rattle.protocol.specs.Counts.{recovering}
 use Rattle.terms.specs.Votes.{votes}
 use Rattle.terms.specs.Written.{told_of}
+-- what a receive tells of its reply
+pub use Rattle.terms.specs.Written.{verdict}
 use Rattle.protocol.specs.Answers.{delivered, decide}
 use Rattle.protocol.specs.State.{State, meets}
 
@@ -25,12 +27,6 @@ use Rattle.protocol.specs.State.{State, meets}
 abbrev pub place_after : ℕ → ℕ → List ℕ → Option ℕ
 place_after n c [] = None
 place_after n c (x ∷ xs) = cond (c == x) (Some (suc n)) (place_after (suc n) c xs)
-
--- what a receive tells of its reply
-abbrev pub verdict : Reply → Received
-verdict (No e) = SaidNo
-verdict (Yes e) = SaidYes
-verdict (Told e t) = SaidYes
 
 -- Those that ask nothing of the book.
 module _ {S : Type 0} where

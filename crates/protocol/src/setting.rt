@@ -17,10 +17,7 @@ impl Setting {
     pub fn check(self) -> Result<(), Fault>
         ensures { result ≡ settled (setting_refusal self) tt }
     {
-        if self.size % 2 == 0 {
-            return Err(Fault::of(Refusal::BadSize, Layer::Group));
-        }
-        if self.size > 9 {
+        if self.size % 2 == 0 || self.size > 9 {
             return Err(Fault::of(Refusal::BadSize, Layer::Group));
         }
         if self.leader >= self.size {

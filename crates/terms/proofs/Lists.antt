@@ -1,6 +1,5 @@
 -- Lists of job numbers: members, and what stands ahead of a job.
-use Rattle.std.proofs.Common.{◌≡◌, ℕ, zero, suc, ◌+◌, ◌<◌, Bool, true, false, cond, not, ◌&&◌, ◌||◌, eqb, ◌⊎◌, List, [], ◌∷◌, ◌++◌, length, get_or, take, refl, inl, inr, add-one, arith}
-use Rattle.std.proofs.lemmas.List.{take_more}
+use Rattle.std.proofs.Common.{◌≡◌, ℕ, zero, suc, ◌<◌, Bool, true, false, cond, not, ◌&&◌, ◌||◌, eqb, ◌⊎◌, List, [], ◌∷◌, ◌++◌, refl, inl, inr, arith}
 use Rattle.std.proofs.lemmas.Bool.Decides.{nat_tests}
 use Rattle.std.proofs.lemmas.Bool.{cases_eq}
 use Rattle.terms.specs.Tests.{any_below, any_of, ascending, mem, distinct}
@@ -106,19 +105,3 @@ clear_same meets meets' c (x ∷ xs) same =
     let here = same x in
     let rest = clear_same meets meets' c xs (λ d l. same d (grind arith)) in
     grind (arith, nat_tests)
-
--- as a loop goes through the numbers, or through a list
-pub any_below_more : (n : ℕ) (p : ℕ → Bool) → any_below (n + 1) p ≡ p n || any_below n p
-any_below_more n p = simp add-one
-
-pub any_of_more : (p : ℕ → Bool) (xs : List ℕ) (i : ℕ) → i < length xs → any_of p (take (i + 1) xs) ≡ p (get_or xs i 0) || any_of p (take i xs)
-any_of_more p xs i h =
-    let one = take_more xs i 0 h in
-    let split = any_append p (take i xs) (get_or xs i 0 ∷ []) in
-    grind arith
-
-pub any_hit : (more hit before : Bool) {b now : Bool} → more ≡ hit || before → b ≡ hit → b ≡ true → now ≡ true → now ≡ more
-any_hit more hit before e f g h = cc
-
-pub any_miss : (more hit before : Bool) {b was now : Bool} → more ≡ hit || before → b ≡ hit → b ≡ false → was ≡ before → now ≡ was → now ≡ more
-any_miss more hit before e f g h k = cc

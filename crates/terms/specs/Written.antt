@@ -2,6 +2,8 @@
 use Rattle.std.specs.Prelude.{ℕ, Some, None, Option}
 use Rattle.terms.specs.declared.answers.Phase.{Phase}
 use Rattle.terms.specs.declared.answers.Phase.TheVariants.{Waiting, Slow, Fast}
+use Rattle.terms.specs.declared.answers.Reply.{Reply}
+use Rattle.terms.specs.declared.answers.Reply.TheVariants.{No as NoAt, Yes as YesAt, Told}
 use Rattle.terms.specs.declared.calls.Received.{Received}
 use Rattle.terms.specs.declared.calls.Received.TheVariants.{Yes, No, Dropped}
 
@@ -20,6 +22,12 @@ abbrev pub received_number : Received → ℕ
 received_number Yes = 0
 received_number No = 1
 received_number Dropped = 2
+
+-- what a box has said by its reply
+abbrev pub verdict : Reply → Received
+verdict (NoAt e) = No
+verdict (YesAt e) = Yes
+verdict (Told e t) = Yes
 
 -- y, n, d
 abbrev pub received_letter : Received → ℕ

@@ -26,27 +26,6 @@ pub enum Phase {
 }
 
 impl Phase {
-    pub fn number(self) -> u8
-        ensures { result ≡ phase_number self }
-    {
-        match self {
-            Phase::Waiting => 0,
-            Phase::Slow => 1,
-            Phase::Fast { .. } => 2,
-        }
-    }
-
-    // The letter that a report has for the phase.
-    pub fn letter(self) -> char
-        ensures { result ≡ phase_letter self }
-    {
-        match self {
-            Phase::Waiting => 'w',
-            Phase::Slow => 's',
-            Phase::Fast { .. } => 'f',
-        }
-    }
-
     // The result that a confirmed job's client was told.
     pub fn told(self) -> Option<u32>
         ensures { result ≡ told_of self }
@@ -54,6 +33,31 @@ impl Phase {
         match self {
             Phase::Fast { result, .. } => Some(result),
             _ => None,
+        }
+    }
+}
+
+impl From<Phase> for u8 {
+    ghost from_gives = { λ phase number. number ≡ phase_number phase };
+
+    fn from(phase: Phase) -> u8 {
+        match phase {
+            Phase::Waiting => 0,
+            Phase::Slow => 1,
+            Phase::Fast { .. } => 2,
+        }
+    }
+}
+
+// The letter that a report has for the phase. Each enum has its own letters, so this is a table and no twin.
+impl From<Phase> for char {
+    ghost from_gives = { λ phase letter. letter ≡ phase_letter phase };
+
+    fn from(phase: Phase) -> char {
+        match phase {
+            Phase::Waiting => 'w',
+            Phase::Slow => 's',
+            Phase::Fast { .. } => 'f',
         }
     }
 }

@@ -1,11 +1,12 @@
 ghost use Rattle.std.specs.Prelude.{◌≡◌};
-ghost use Rattle.terms.specs.Written.{received_number, received_letter};
+ghost use Rattle.terms.specs.Written.{received_number, received_letter, verdict};
 
-use crate::answers::Phase;
+use crate::answers::{Phase, Reply};
 use crate::voters::Voters;
 use base::Record;
 
-// What can be asked of a group. Replicas and jobs go by their numbers, from 0; any number may be named.
+// What can be asked of a group. Replicas and jobs go by their numbers, from 0; any number may be named,
+// and each is tested by itself, so the two are no pair.
 #[derive(Clone, Copy, PartialEq, Eq, Debug)]
 pub enum Call {
     Propose(Record),
@@ -25,22 +26,32 @@ pub enum Received {
     Dropped,
 }
 
-impl Received {
-    pub fn number(self) -> u8
-        ensures { result ≡ received_number self }
-    {
-        match self {
-            Received::Yes => 0,
-            Received::No => 1,
-            Received::Dropped => 2,
+impl From<Received> for u8 {
+    ghost from_gives = { λ received number. number ≡ received_number received };
+
+    fn from(received: Received) -> u8 {
+        received as u8
+    }
+}
+
+// What a box has said by its reply.
+impl From<Reply> for Received {
+    ghost from_gives = { λ reply received. received ≡ verdict reply };
+
+    fn from(reply: Reply) -> Received {
+        match reply {
+            Reply::No { .. } => Received::No,
+            Reply::Yes { .. } | Reply::Told { .. } => Received::Yes,
         }
     }
+}
 
-    // The letter that a report has for the outcome.
-    pub fn letter(self) -> char
-        ensures { result ≡ received_letter self }
-    {
-        match self {
+// The letter that a report has for the outcome.
+impl From<Received> for char {
+    ghost from_gives = { λ received letter. letter ≡ received_letter received };
+
+    fn from(received: Received) -> char {
+        match received {
             Received::Yes => 'y',
             Received::No => 'n',
             Received::Dropped => 'd',

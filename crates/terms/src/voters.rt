@@ -39,13 +39,7 @@ impl Voters {
     pub fn count(&self) -> u32
         ensures { result ≡ vote_count self.now }
     {
-        let mut n = 0;
-        for d in 0..10 {
-            if self.has(d) {
-                n += 1;
-            }
-        }
-        n
+        (0..10).filter(|digit| self.has(*digit)).count() as u32
     }
 
     // The digit is in the set, and is no box of a group of `size`.
@@ -59,12 +53,6 @@ impl Voters {
     pub fn has_stranger(&self, size: u32) -> bool
         ensures { result ≡ has_stranger size self.now }
     {
-        let mut found = false;
-        for d in 0..10 {
-            if self.names_beyond(size, d) {
-                found = true;
-            }
-        }
-        found
+        (0..10).any(|digit| self.names_beyond(size, digit))
     }
 }
