@@ -34,11 +34,14 @@ cards_misfit r =
     (cond (nat_lt 0 r.z) (Some z_field) None))))
 
 -- the result is the slot's value before the act; two records clash on one slot
-abbrev pub cards : Meaning Slots
-cards = for_fitting (record {
+abbrev pub slots : Meaning Slots
+slots = record {
   initial = λ _. 0;
   misfit = cards_misfit;
   clashes = λ a b. (a.x == b.x);
   result = λ s r. s r.x;
   after = λ s r. cond (r.act == writing) (put s r.x r.y) (cond (r.act == clearing) (put s r.x 0) s);
-})
+}
+
+abbrev pub cards : Meaning Slots
+cards = for_fitting slots

@@ -1,4 +1,5 @@
 pub mod Accepted
+pub mod Acts
 pub mod Cards
 pub mod Cases
 pub mod Fitting
@@ -9,4 +10,5 @@ pub mod Windows
 pub mod FittingLemmas
 pub mod PairsLemmas
 pub mod TablesLemmas
-pub mod WindowsBookLemmas
+pub mod CardsLemmas
+pub mod WindowsLemmas

@@ -57,11 +57,14 @@ windows_after s r =
 abbrev pub overlap : Record → Record → Bool
 overlap a b = a.x == b.x && (nat_lt a.y b.z && nat_lt b.y a.z)
 
-abbrev pub windows : Meaning Timetable
-windows = for_fitting (record {
+abbrev pub timetables : Meaning Timetable
+timetables = record {
   initial = λ _ _. false;
   misfit = windows_misfit;
   clashes = overlap;
   result = windows_result;
   after = windows_after;
-})
+}
+
+abbrev pub windows : Meaning Timetable
+windows = for_fitting timetables

@@ -1,24 +1,53 @@
 ghost use Rattle.std.specs.Prelude.{◌≡◌};
-ghost use Rattle.books.specs.Cards.{Slots, slots_of, cards};
-ghost use Rattle.std.proofs.Common.{arith};
-ghost use Rattle.std.proofs.lemmas.Bool.Decides.{nat_tests};
-ghost use Rattle.books.specs.FittingLemmas.{fitting_laws};
+ghost use Rattle.books.specs.Acts.{card_act, Decodes};
+ghost use Rattle.books.specs.Cards.{Slots, slots_of, slots, largest_value};
+ghost use Rattle.books.specs.CardsLemmas.{fair_slots};
 
-use crate::book::Book;
-use base::Record;
+use crate::fitting::Table;
+use base::{Fault, Record};
 
-// The acts: 0 reads.
-const WRITE: u32 = 1;
+// What a record does with its slot.
+#[derive(Clone, Copy)]
+enum Act {
+    Read,
+    Write,
+    Clear,
+}
 
-const CLEAR: u32 = 2;
+impl TryFrom<u32> for Act {
+    type Error = Fault;
+
+    ghost try_from_gives = { Decodes card_act };
+
+    fn try_from(number: u32) -> Result<Act, Fault> {
+        match number {
+            0 => Ok(Act::Read),
+            1 => Ok(Act::Write),
+            2 => Ok(Act::Clear),
+            _ => Err(Fault::misfit(Record::ACT)),
+        }
+    }
+}
+
+impl Act {
+    // Only a write takes a value.
+    fn largest_value(self) -> u32
+        ensures { result ≡ largest_value (card_act self) }
+    {
+        match self {
+            Act::Write => LARGEST_VALUE,
+            Act::Read | Act::Clear => 0,
+        }
+    }
+}
 
 const SLOTS: usize = 256;
 
 const LARGEST_VALUE: u32 = 999_999;
 
-// A value in each slot.
+// A value in each slot, in fixed memory.
 #[derive(Drop)]
-pub struct Cards {
+pub struct CardTable {
     values: [u32; SLOTS],
 }
 
@@ -28,30 +57,31 @@ fn empty_slots() -> [u32; SLOTS]
     [0; SLOTS]
 }
 
-impl Book for Cards {
+impl Table for CardTable {
     ghost State = { Slots };
 
     ghost state = { λ c. slots_of c.values };
 
-    ghost meaning = { cards };
+    ghost meaning = { slots };
 
-    ghost lawful = { fitting_laws _ (λ a b. Prim.grind (arith, nat_tests)) (λ s a b _ _ h. Prim.grind (arith, nat_tests)) };
+    ghost fair = { fair_slots };
 
-    fn fresh() -> Cards {
-        Cards {
+    fn blank() -> CardTable {
+        CardTable {
             values: empty_slots(),
         }
     }
 
-    fn fits(job: Record) -> Option<u8> {
-        let largest = if job.act == WRITE { LARGEST_VALUE } else { 0 };
+    fn misfit(job: Record) -> Option<u8> {
         if job.book > 0 {
-            Some(Record::BOOK)
-        } else if job.act > CLEAR {
-            Some(Record::ACT)
-        } else if job.x as usize >= SLOTS {
+            return Some(Record::BOOK);
+        }
+        let Ok(act) = Act::try_from(job.act) else {
+            return Some(Record::ACT);
+        };
+        if job.x as usize >= SLOTS {
             Some(Record::X)
-        } else if job.y > largest {
+        } else if job.y > act.largest_value() {
             Some(Record::Y)
         } else if job.z > 0 {
             Some(Record::Z)
@@ -60,30 +90,21 @@ impl Book for Cards {
         }
     }
 
-    fn clash(a: Record, b: Record) -> bool {
-        if Self::fits(a).is_some() || Self::fits(b).is_some() {
-            return false;
-        }
+    fn meet(a: Record, b: Record) -> bool {
         a.x == b.x
     }
 
     // The slot's value.
-    fn look(&self, job: Record) -> u32 {
-        if Self::fits(job).is_some() {
-            return 0;
-        }
+    fn tell(&self, job: Record) -> u32 {
         self.values[job.x as usize]
     }
 
-    fn apply(&mut self, job: Record) -> u32 {
-        if Self::fits(job).is_some() {
-            return 0;
-        }
+    fn enter(&mut self, job: Record) -> u32 {
         let slot = job.x as usize;
         let before = self.values[slot];
-        match job.act {
-            WRITE => self.values[slot] = job.y,
-            CLEAR => self.values[slot] = 0,
+        match Act::try_from(job.act) {
+            Ok(Act::Write) => self.values[slot] = job.y,
+            Ok(Act::Clear) => self.values[slot] = 0,
             _ => {}
         }
         before

@@ -56,6 +56,7 @@ impl<A: Book, B: Book> Book for Pair<A, B> {
         B::clash(lowered(a), lowered(b))
     }
 
+    // `look` and `apply` stay two: one reads a side and the other changes it, and no text is generic over that.
     fn look(&self, job: Record) -> u32 {
         if job.book == 0 {
             self.left.look(job)

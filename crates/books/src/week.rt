@@ -2,7 +2,7 @@ ghost use Rattle.std.specs.Prelude.{◌≡◌, ℕ, ◌≤◌, false};
 ghost use Rattle.books.specs.Weeks.{hours_of};
 ghost use Rattle.books.specs.Windows.{taken_between, marked};
 
-// Which hours of one vehicle's week are taken.
+// Which hours of one vehicle's week are taken. Fixed memory, as every table of a book: a fresh one must not fail.
 #[derive(Clone, Copy)]
 pub struct Week {
     taken: [bool; Week::HOURS],
@@ -24,23 +24,14 @@ impl Week {
         requires { (from ≤ end) × (end ≤ 168) }
         ensures { result ≡ taken_between (hours_of self.now) from end }
     {
-        let mut count = 0;
-        for hour in from..end {
-            if self.taken[hour] {
-                count += 1;
-            }
-        }
-        count
+        self.taken[from..end].iter().filter(|taken| **taken).count() as u32
     }
 
-    // The week with these hours all taken, or all free.
-    pub(crate) fn marked(mut self, from: usize, end: usize, taken: bool) -> Week
+    // Makes these hours as `taken` says, all taken or all free: what is written, and no choice of a step.
+    pub(crate) fn mark(&mut self, from: usize, end: usize, taken: bool)
         requires { (from ≤ end) × (end ≤ 168) }
-        ensures { hours_of result ≡ marked (hours_of self) from end taken }
+        ensures { hours_of self.new ≡ marked (hours_of self.old) from end taken }
     {
-        for hour in from..end {
-            self.taken[hour] = taken;
-        }
-        self
+        self.taken[from..end].fill(taken);
     }
 }

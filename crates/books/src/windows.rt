@@ -1,25 +1,41 @@
-ghost use Rattle.std.specs.Prelude.{◌≡◌, false, ◌&&◌, is_some, if◌then◌else◌, ◌==◌, nat_eq};
-ghost use Rattle.std.proofs.Common.{ap, arith};
+ghost use Rattle.std.specs.Prelude.{◌≡◌, false, is_some};
+ghost use Rattle.books.specs.Acts.{window_act, Decodes};
 ghost use Rattle.books.specs.Weeks.{timetable_of};
-ghost use Rattle.books.specs.Windows.{Timetable, windows, windows_misfit, with_hours, windows_result, booking, freeing};
-ghost use Rattle.std.proofs.lemmas.Bool.Decides.{nat_tests};
-ghost use Rattle.books.specs.FittingLemmas.{fitting_laws};
-ghost use Rattle.books.specs.WindowsBookLemmas.{same_count};
+ghost use Rattle.books.specs.Windows.{Timetable, timetables, windows_misfit, with_hours};
+ghost use Rattle.books.specs.WindowsLemmas.{fair_timetables};
 
-use crate::book::Book;
+use crate::fitting::Table;
 use crate::week::Week;
-use base::Record;
+use base::{Fault, Record};
 
-// The acts: 1 asks whether the hours are free.
-const BOOK: u32 = 0;
+// What a record does with its hours. The acts of each book have their own numbers, so this is a table and no twin.
+#[derive(Clone, Copy)]
+enum Act {
+    Book,
+    Ask,
+    Free,
+}
 
-const FREE: u32 = 2;
+impl TryFrom<u32> for Act {
+    type Error = Fault;
+
+    ghost try_from_gives = { Decodes window_act };
+
+    fn try_from(number: u32) -> Result<Act, Fault> {
+        match number {
+            0 => Ok(Act::Book),
+            1 => Ok(Act::Ask),
+            2 => Ok(Act::Free),
+            _ => Err(Fault::misfit(Record::ACT)),
+        }
+    }
+}
 
 const VEHICLES: usize = 16;
 
-// A week of hours for each vehicle.
+// A week of hours for each vehicle, in fixed memory.
 #[derive(Drop)]
-pub struct Windows {
+pub struct WindowTable {
     weeks: [Week; VEHICLES],
 }
 
@@ -29,40 +45,36 @@ fn free_weeks() -> [Week; VEHICLES]
     [Week::free(); VEHICLES]
 }
 
-impl Windows {
+impl WindowTable {
     // Makes the hours of a record that fits all taken, or all free.
     fn mark(&mut self, job: Record, taken: bool)
         requires { is_some (windows_misfit job) ≡ false }
         ensures { timetable_of self.new.weeks ≡ with_hours (timetable_of self.old.weeks) job taken }
     {
-        let vehicle = job.x as usize;
-        let week = self.weeks[vehicle];
-        self.weeks[vehicle] = week.marked(job.y as usize, job.z as usize, taken);
+        let week = &mut self.weeks[job.x as usize];
+        week.mark(job.y as usize, job.z as usize, taken);
     }
 }
 
-impl Book for Windows {
+impl Table for WindowTable {
     ghost State = { Timetable };
 
     ghost state = { λ w. timetable_of w.weeks };
 
-    ghost meaning = { windows };
+    ghost meaning = { timetables };
 
-    ghost lawful = { fitting_laws _ (λ a b. Prim.grind (arith, nat_tests))
-        (λ s a b _ _ h.
-        ap (λ n. (if nat_eq a.act freeing then n else (if nat_eq n 0 then 1 else 0)))
-        (same_count s a b h (b.act == booking && windows_result s b == 1) (b.act == freeing))) };
+    ghost fair = { fair_timetables };
 
-    fn fresh() -> Windows {
-        Windows {
+    fn blank() -> WindowTable {
+        WindowTable {
             weeks: free_weeks(),
         }
     }
 
-    fn fits(job: Record) -> Option<u8> {
+    fn misfit(job: Record) -> Option<u8> {
         if job.book > 0 {
             Some(Record::BOOK)
-        } else if job.act > FREE {
+        } else if Act::try_from(job.act).is_err() {
             Some(Record::ACT)
         } else if job.x as usize >= VEHICLES {
             Some(Record::X)
@@ -75,36 +87,27 @@ impl Book for Windows {
         }
     }
 
-    fn clash(a: Record, b: Record) -> bool {
-        if Self::fits(a).is_some() || Self::fits(b).is_some() {
-            return false;
-        }
+    fn meet(a: Record, b: Record) -> bool {
         a.x == b.x && a.y < b.z && b.y < a.z
     }
 
-    fn look(&self, job: Record) -> u32 {
-        if Self::fits(job).is_some() {
-            return 0;
-        }
-        let week = self.weeks[job.x as usize];
+    // How many hours are taken, where they are to be freed; else 1 where all are free, and 0 where one is taken.
+    fn tell(&self, job: Record) -> u32 {
+        let week = &self.weeks[job.x as usize];
         let taken = week.taken_between(job.y as usize, job.z as usize);
-        if job.act == FREE {
-            taken
-        } else {
-            u32::from(taken == 0)
+        match Act::try_from(job.act) {
+            Ok(Act::Free) => taken,
+            _ => u32::from(taken == 0),
         }
     }
 
-    fn apply(&mut self, job: Record) -> u32 {
-        if Self::fits(job).is_some() {
-            return 0;
+    fn enter(&mut self, job: Record) -> u32 {
+        let told = self.tell(job);
+        match Act::try_from(job.act) {
+            Ok(Act::Book) if told == 1 => self.mark(job, true),
+            Ok(Act::Free) => self.mark(job, false),
+            _ => {}
         }
-        let result = self.look(job);
-        if job.act == BOOK && result == 1 {
-            self.mark(job, true);
-        } else if job.act == FREE {
-            self.mark(job, false);
-        }
-        result
+        told
     }
 }

@@ -17,7 +17,7 @@ pub(crate) fn fits_as<B: Book>(rt: &impl Abort, rows: &[([u32; 5], Option<u8>)])
             Ok(()) => assert_eq!(rt; *wrong, None),
             Err(fault) => {
                 assert_eq!(rt; fault.field, *wrong);
-                assert_eq!(rt; fault.number.number(), 3);
+                assert_eq!(rt; u32::from(fault.number), 3);
                 assert_eq!(rt; fault.layer.name(), "book");
             }
         }

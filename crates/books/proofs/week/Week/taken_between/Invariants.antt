@@ -1,7 +1,0 @@
-use Rattle.std.proofs.Common.{◌≡◌, ◌≤◌}
-use Rattle.books.specs.Weeks.{hours_of}
-use Rattle.books.specs.Windows.{taken_between}
-use Rattle.books.proofs.week.Week.taken_between.Given as goal
-
-abbrev pub invariant-loop-hour : goal.invariant-loop-hour
-invariant-loop-hour l = (l.count ≡ taken_between (hours_of l.self) l.from l.hour) × (l.count ≤ l.hour)
