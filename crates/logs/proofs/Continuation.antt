@@ -26,10 +26,6 @@ module _ (m : ℕ) (xs ys : List ℕ) where
 module _ (m : ℕ) (fits : m ≤ 4096) (xs ys : List ℕ) (n k : ℕ) where
   -- an addition to the first, with the second made empty
   module _ (h : length xs < m) where
-    pub first_outcome : added_outcome m xs ≡ added_outcome (joint m n) (continued m xs ys)
-    first_outcome =
-        rw (open_is m xs ys h) (room_outcome m xs h ∙ sym (room_outcome (joint m n) xs (omega arith)))
-
     pub first_added : (zs : List ℕ) → zs ≡ [] → continued m (added m xs k) zs ≡ added (joint m n) (continued m xs ys) k
     first_added zs e =
         let l = length_push xs k in

@@ -1,9 +1,18 @@
 -- Lines are read as the numbers that they were written from.
-use Rattle.std.proofs.Common.{◌≡◌, ℕ, zero, suc, ◌+◌, ◌-◌, ◌*◌, ◌/◌, ◌%◌, ◌<◌, ◌≤◌, true, false, cond, ltb, leb, List, [], ◌∷◌, ◌++◌, length, get_or, drop, decimal, sym, refl, ap, ◌∙◌, append_assoc, add-zero, arith}
+use Rattle.std.proofs.Common.{◌≡◌, ℕ, zero, suc, ◌+◌, ◌-◌, ◌*◌, ◌/◌, ◌%◌, ◌<◌, ◌≤◌, true, false, eqb, ltb, leb, List, [], ◌∷◌, ◌++◌, length, map, get_or, slice_get, decimal, Option, Some, None, option_map, Bor, sym, refl, ap, ◌∙◌, append_assoc, inl, inr, arith}
 use Rattle.std.specs.Char.{is_ascii_digit}
-use Rattle.std.proofs.lemmas.Fmt.{decimal_by_steps}
-use Rattle.std.proofs.lemmas.List.{at_drop_more, drop-drop, get_or-drop, length-drop}
-use Rattle.std.proofs.lemmas.Bool.{cond-true, cond-false, le-leb, lt-ltb, ltb-true, and_from, and_parts}
+use Rattle.std.specs.Int.{IsInRange}
+use Rattle.std.specs.List.{All, slice_split}
+use Rattle.std.specs.Str.Lines.{lines, lines_of_parts, strip_carriage_return}
+use Rattle.std.proofs.lemmas.Fmt.{decimal_by_steps, decimal_is_IsNumeral, decimal_nonempty}
+use Rattle.std.proofs.lemmas.Str.Parse.{digit_at}
+use Rattle.std.proofs.lemmas.List.{length-map}
+use Rattle.std.proofs.lemmas.List.Elements.{All-from_get_or}
+use Rattle.std.proofs.lemmas.List.Splits.{slice_split_at, length-slice_split}
+use Rattle.std.proofs.lemmas.Option.{slice_get-map, slice_get_cases, get_or_from_slice_get, gets}
+use Rattle.std.proofs.lemmas.Grind.{common_steps}
+use Rattle.std.proofs.lemmas.Bool.{cond-true, cond-false, ne_eqb, le-leb, lt-ltb, ltb-true, and_from, and_parts}
+use Rattle.logs.specs.Entries.{at_place}
 use Rattle.logs.specs.Lines.{lines_of, read_on, numbers_in, all_fit}
 
 -- one digit more, at the end of a number
@@ -49,6 +58,10 @@ fits_push [] n f h = and_from (ltb n 65536) true (lt-ltb n 65536 h) refl
 fits_push (m ∷ ns) n f h =
     let p = and_parts (ltb m 65536) (all_fit ns) f in and_from _ _ p.0 (fits_push ns n p.1 h)
 
+-- the digits and the end of a line, pushed one after the other
+pub appended : (was mid is ds : List ℕ) (n : ℕ) → mid ≡ was ++ ds → is ≡ mid ++ 10 ∷ [] → ds ≡ decimal n → is ≡ was ++ (decimal n ++ 10 ∷ [])
+appended was mid is ds n m e d = rw (e, m, d) (append_assoc was (decimal n) (10 ∷ []))
+
 -- a line more
 module _ (was is : List ℕ) (n : ℕ) (w : was ≡ lines_of (numbers_in was)) (f : all_fit (numbers_in was) ≡ true) (small : n < 65536) (e : is ≡ was ++ (decimal n ++ 10 ∷ [])) where
   whole : is ≡ lines_of (numbers_in was ++ n ∷ [])
@@ -66,50 +79,65 @@ module _ (was is : List ℕ) (n : ℕ) (w : was ≡ lines_of (numbers_in was)) (
   pub still_fit : all_fit (numbers_in is) ≡ true
   still_fit = ap all_fit one_more ∙ fits
 
-fits_at : (ns : List ℕ) (i d : ℕ) → all_fit ns ≡ true → i < length ns → get_or ns i d < 65536
-fits_at [] i d f h = absurd (omega arith)
-fits_at (n ∷ ns) zero d f h = (fits_first n ns f).0
-fits_at (n ∷ ns) (suc i) d f h = fits_at ns i d (fits_first n ns f).1 (omega arith)
+fits_at : (ns : List ℕ) (i : ℕ) → all_fit ns ≡ true → i < length ns → get_or ns i 0 < 65536
+fits_at [] i f h = absurd (omega arith)
+fits_at (n ∷ ns) zero f h = (fits_first n ns f).0
+fits_at (n ∷ ns) (suc i) f h = fits_at ns i (fits_first n ns f).1 (omega arith)
 
--- a number that is being read is at most the one that it ends as
-at_least : (n d : ℕ) (bs : List ℕ) → 0 < length (read_on n bs) → n ≤ get_or (read_on n bs) 0 d
-at_least n d [] h = absurd (omega arith)
-at_least n d (b ∷ bs) h =
-    let m = n * 10 + (b - 48) in
-    elim (is_ascii_digit b) as (λ t. 0 < length (cond t (read_on m bs) (n ∷ read_on 0 bs)) → n ≤ get_or (cond t (read_on m bs) (n ∷ read_on 0 bs)) 0 d) [
-      | true ↦ λ h. omega (arith, at_least m d bs h)
-      | false ↦ λ h. omega arith
-    ] h
+-- Each line is the digits of its number: they have no line end among them, and no carriage return at their end.
+digit_byte : (n i : ℕ) → n < 65536 → i < length (decimal n) → IsInRange 48 57 (get_or (decimal n) i 0)
+digit_byte n i h l = digit_at (decimal n) i (decimal_is_IsNumeral n (omega arith)).0.1 l
 
--- What is left to read is the numbers ns from the k-th on.
-module _ (ns : List ℕ) (k : ℕ) (h : k < length ns) (n : ℕ) (bs : List ℕ) (e : read_on n bs ≡ drop k ns) where
-  some : 0 < length (read_on n bs)
-  some = rw e (simp length-drop (omega arith))
+no_end : (n : ℕ) → n < 65536 → All (λ b. eqb b 10 ≡ false) (decimal n)
+no_end n h = All-from_get_or (λ b. eqb b 10 ≡ false) (decimal n) 0 (λ i l. let d = digit_byte n i h l in ne_eqb (get_or (decimal n) i 0) 10 (λ e. omega (arith, d.0)))
 
-  small_yet : all_fit ns ≡ true → n < 65536
-  small_yet f =
-      let a = at_least n 0 bs some in
-      let b = ap (λ t. get_or t 0 0) e ∙ get_or-drop k ns 0 0 in
-      omega (arith, fits_at ns (k + 0) 0 f (omega arith))
+no_return : (n : ℕ) → n < 65536 → strip_carriage_return (decimal n) ≡ decimal n
+no_return n h =
+    let some = decimal_nonempty n (omega arith) in
+    let d = digit_byte n (length (decimal n) - 1) h (omega arith) in
+    cond-false _ _ _ (ne_eqb (get_or (decimal n) (length (decimal n) - 1) 0) 13 (λ e. omega (arith, d.0)))
 
-  pub not_done : bs ≡ [] → ⊥
-  not_done z = let l = ap (λ t. length (read_on n t)) z in omega (arith, some)
+one_part : (x : List ℕ) (parts : List (List ℕ)) → 0 < length parts → lines_of_parts (x ∷ parts) ≡ strip_carriage_return x ∷ lines_of_parts parts
+one_part x [] h = absurd (omega arith)
+one_part x (y ∷ more) h = refl
 
--- One byte more.
-module _ (bs : List ℕ) (i n : ℕ) (h : i < length bs) where
-  pub goes_on : is_ascii_digit (get_or bs i 0) ≡ true → read_on n (drop i bs) ≡ read_on (n * 10 + (get_or bs i 0 - 48)) (drop (i + 1) bs)
-  goes_on e = at_drop_more (read_on n) bs i 0 h ∙ cond-true (is_ascii_digit (get_or bs i 0)) _ _ e
+pub lines_written : (ns : List ℕ) → all_fit ns ≡ true → lines (lines_of ns) ≡ map decimal ns
+lines_written [] f = refl
+lines_written (n ∷ ns) f =
+    let p = fits_first n ns f in
+    let l = length-slice_split (λ b. eqb b 10) (lines_of ns) in
+    ap lines_of_parts (slice_split_at (λ b. eqb b 10) (decimal n) 10 (lines_of ns) (no_end n p.0) refl)
+    ∙ (one_part (decimal n) (slice_split (λ b. eqb b 10) (lines_of ns)) (omega arith)
+    ∙ (ap (λ x. x ∷ lines (lines_of ns)) (no_return n p.0)
+    ∙ ap (λ t. decimal n ∷ t) (lines_written ns p.1)))
 
-  pub fits_on : (ns : List ℕ) (k : ℕ) → k < length ns → all_fit ns ≡ true → read_on n (drop i bs) ≡ drop k ns
-      → is_ascii_digit (get_or bs i 0) ≡ true → n * 10 + (get_or bs i 0 - 48) < 65536
-  fits_on ns k l f r e = small_yet ns k l (n * 10 + (get_or bs i 0 - 48)) (drop (i + 1) bs) (sym (goes_on e) ∙ r) f
+-- so there are as many lines as numbers
+pub lines_counted : (bs : List ℕ) → bs ≡ lines_of (numbers_in bs) → all_fit (numbers_in bs) ≡ true → length (lines bs) ≡ length (numbers_in bs)
+lines_counted bs w f = ap (λ t. length (lines t)) w ∙ (ap length (lines_written (numbers_in bs) f) ∙ length-map (numbers_in bs) decimal)
 
-  module _ (ns : List ℕ) (k : ℕ) (e : is_ascii_digit (get_or bs i 0) ≡ false) (r : read_on n (drop i bs) ≡ drop k ns) where
-    ends : n ∷ read_on 0 (drop (i + 1) bs) ≡ drop k ns
-    ends = sym (at_drop_more (read_on n) bs i 0 h ∙ cond-false (is_ascii_digit (get_or bs i 0)) _ _ e) ∙ r
+place_is : (ns : List ℕ) (place : ℕ) → 1 ≤ place → at_place ns place ≡ slice_get ns (place - 1)
+place_is ns place h = grind (arith, common_steps, gets)
 
-    pub ends_as : n ≡ get_or ns k 0
-    ends_as = ap (λ t. get_or t 0 0) ends ∙ (get_or-drop k ns 0 0 ∙ rw add-zero refl)
+-- What the line at a place says, where r is the line that was taken there.
+module _ (bs : List ℕ) (place i : ℕ) (w : bs ≡ lines_of (numbers_in bs)) (f : all_fit (numbers_in bs) ≡ true) (h : (1 ≤ place) × (i ≡ place - 1))
+    (r : Option (Bor (List ℕ))) (e : option_map (λ x. x.now) r ≡ slice_get (lines bs) i) where
+  taken : option_map (λ x. x.now) r ≡ option_map decimal (slice_get (numbers_in bs) i)
+  taken = e ∙ (ap (λ t. slice_get (lines t) i) w ∙ (ap (λ t. slice_get t i) (lines_written (numbers_in bs) f) ∙ slice_get-map decimal (numbers_in bs) i))
 
-    pub starts_next : read_on 0 (drop (i + 1) bs) ≡ drop (k + 1) ns
-    starts_next = ap (drop 1) ends ∙ drop-drop 1 k ns
+  found : at_place (numbers_in bs) place ≡ slice_get (numbers_in bs) i
+  found = rw h.1 (place_is (numbers_in bs) place h.0)
+
+  pub no_line : r ≡ None → at_place (numbers_in bs) place ≡ None
+  no_line z = elim (slice_get_cases (numbers_in bs) i).1 [
+    | inl s ↦ absurd (cc (taken, z, s.2))
+    | inr s ↦ found ∙ s.1
+  ]
+
+  pub the_line : (line : Bor (List ℕ)) → r ≡ Some line → (n : ℕ) × (n < 65536) × (line.now ≡ decimal n) × (at_place (numbers_in bs) place ≡ Some n)
+  the_line line z = elim (slice_get_cases (numbers_in bs) i).1 [
+    | inl s ↦
+        let small = fits_at (numbers_in bs) i f s.1 in
+        let is = get_or_from_slice_get (numbers_in bs) i s.0 0 s.2 in
+        (s.0, omega (arith, small, is), cc (taken, z, s.2), found ∙ s.2)
+    | inr s ↦ absurd (cc (taken, z, s.1))
+  ]

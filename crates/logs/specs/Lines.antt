@@ -1,11 +1,6 @@
 -- Numbers as decimal lines, and such lines read as numbers.
-use Rattle.std.specs.Prelude.{ℕ, ◌+◌, ◌-◌, ◌*◌, Bool, true, cond, ◌&&◌, List, [], ◌∷◌, ◌++◌, take, decimal, nat_lt}
+use Rattle.std.specs.Prelude.{ℕ, ◌+◌, ◌-◌, ◌*◌, Bool, true, cond, ◌&&◌, List, [], ◌∷◌, ◌++◌, decimal, nat_lt}
 use Rattle.std.specs.Char.{is_ascii_digit}
-use Rattle.logs.specs.declared.line.Text.{Text}
-
--- the bytes in use
-abbrev pub content : Text → List ℕ
-content t = take t.used t.bytes
 
 -- each number's decimal digits, with no zero in front, and byte 10
 abbrev pub lines_of : List ℕ → List ℕ

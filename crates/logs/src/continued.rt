@@ -1,8 +1,10 @@
 ghost use Rattle.logs.specs.Continuing.{continued, joint};
-ghost use Rattle.std.proofs.Common.{rules};
+ghost use Rattle.std.specs.Prelude.{◌+◌};
+ghost use Rattle.std.proofs.Math.Nat.{min-le_right};
 
 use crate::Log;
-use base::{Fault, Layer, Refusal};
+use crate::log::full;
+use base::Fault;
 
 // A log that fills `first`, and then `second`.
 // What `second` holds does not count before `first` is full.
@@ -20,7 +22,7 @@ impl<A: Log, B: Log + Drop> Log for Continued<A, B> {
 
     ghost entries = { λ s. continued A.Log.limit (A.Log.entries s.first) (B.Log.entries s.second) };
 
-    ghost bounded = { Prim.search rules };
+    ghost bounded = { min-le_right (A.Log.limit + B.Log.limit) 4096 };
 
     fn fresh() -> Continued<A, B> {
         Continued {
@@ -35,7 +37,7 @@ impl<A: Log, B: Log + Drop> Log for Continued<A, B> {
             return self.first.add(number);
         }
         if self.length() == Self::capacity() {
-            return Err(Fault::of(Refusal::Full, Layer::Log));
+            return Err(full());
         }
         self.second.add(number)
     }

@@ -1,68 +1,68 @@
-ghost use Rattle.std.specs.Prelude.{◌≡◌, ◌+◌, ◌*◌, ◌<◌, ◌≤◌, true, [], ◌∷◌, ◌++◌, length, decimal};
-ghost use Rattle.logs.specs.Lines.{content, lines_of, numbers_in, all_fit};
+ghost use Rattle.std.specs.Prelude.{◌≡◌, ◌*◌, ◌≤◌, true, length};
+ghost use Rattle.std.proofs.Common.{lit≤};
+ghost use Rattle.arrayvec.specs.ArrayString.{array_string_len};
+ghost use Rattle.logs.specs.Lines.{lines_of, numbers_in, all_fit};
 
-mod log;
+use crate::Log;
+use crate::log::full;
+use arrayvec::ArrayString;
+use base::Fault;
+use itoa::Buffer;
 
-// Bytes that are being written: the first `used` of them.
-#[derive(Clone, Copy)]
-struct Text {
-    bytes: [u8; 600],
-    used: usize,
-}
+// How many numbers there is room for, each in six bytes at most.
+const ROOM: usize = 100;
 
-impl Text {
-    fn empty() -> Text
-        ensures content { content result ≡ [] }
-        ensures used { result.used ≡ 0 }
-    {
-        Text {
-            bytes: [0; 600],
-            used: 0,
-        }
-    }
-
-    fn push(&mut self, byte: u8)
-        requires { self.old.used < 600 }
-        ensures content { content self.new ≡ content self.old ++ byte ∷ [] }
-        ensures used { self.new.used ≡ self.old.used + 1 }
-    {
-        self.bytes[self.used] = byte;
-        self.used += 1;
-    }
-
-    // The digits of `number`, which are five at most.
-    fn digits(&mut self, number: u16)
-        requires { self.old.used + 5 ≤ 600 }
-        ensures content { content self.new ≡ content self.old ++ decimal number }
-        ensures used { self.new.used ≡ self.old.used + length (decimal number) }
-        ensures bound { self.new.used ≤ self.old.used + 5 }
-    {
-        if number < 10 {
-            return self.push(b'0' + number as u8);
-        }
-        self.digits(number / 10);
-        self.push(b'0' + (number % 10) as u8);
-    }
-
-    // The digits of `number` and the end of its line.
-    fn line(&mut self, number: u16)
-        requires { self.old.used + 6 ≤ 600 }
-        ensures content { content self.new ≡ content self.old ++ (decimal number ++ 10 ∷ []) }
-        ensures bound { self.new.used ≤ self.old.used + 6 }
-    {
-        self.digits(number);
-        self.push(b'\n');
-    }
-}
-
-// Numbers as decimal lines, `count` of them, kept as bytes alone.
+// Numbers as decimal lines, kept as that text alone: how many there are is read from it.
 #[derive(Drop)]
 pub struct LineLog {
-    text: Text,
-    count: usize,
-    ghost counted: { count ≡ length (numbers_in (content text)) },
-    ghost room: { count ≤ 100 },
-    ghost short: { text.used ≤ 6 * count },
-    ghost written: { content text ≡ lines_of (numbers_in (content text)) },
-    ghost fit: { all_fit (numbers_in (content text)) ≡ true },
+    text: ArrayString<600>,
+    ghost room: { length (numbers_in text.bytes) ≤ 100 },
+    ghost short: { array_string_len text ≤ 6 * length (numbers_in text.bytes) },
+    ghost written: { text.bytes ≡ lines_of (numbers_in text.bytes) },
+    ghost fit: { all_fit (numbers_in text.bytes) ≡ true },
+}
+
+impl LineLog {
+    // The numbers as they stand: each one's digits and byte 10, one after the other.
+    pub fn text(&self) -> &[u8]
+        ensures { result.now ≡ lines_of (numbers_in self.now.text.bytes) }
+    {
+        self.text.as_bytes()
+    }
+}
+
+impl Log for LineLog {
+    ghost limit = { 100 };
+
+    ghost entries = { λ s. numbers_in s.text.bytes };
+
+    ghost bounded = { lit≤ tt };
+
+    fn fresh() -> LineLog {
+        LineLog {
+            text: ArrayString::new(),
+        }
+    }
+
+    fn add(&mut self, number: u16) -> Result<(), Fault> {
+        if self.length() == ROOM {
+            return Err(full());
+        }
+        self.text.push_str(Buffer::new().format(number));
+        self.text.push('\n');
+        Ok(())
+    }
+
+    fn length(&self) -> usize {
+        self.text.lines().count()
+    }
+
+    fn capacity() -> usize {
+        ROOM
+    }
+
+    fn get(&self, place: usize) -> Option<u16> {
+        let line = self.text.lines().nth(place.checked_sub(1)?)?;
+        line.parse().ok()
+    }
 }

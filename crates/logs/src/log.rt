@@ -1,7 +1,8 @@
 ghost use Rattle.std.specs.Prelude.{◌≡◌, ℕ, ◌≤◌, List, [], length};
+ghost use Rattle.base.specs.Faults.{log_full};
 ghost use Rattle.logs.specs.Entries.{added, added_outcome, at_place};
 
-use base::Fault;
+use base::{Fault, Layer, Refusal};
 
 // A log by its meaning: a list of numbers, and a capacity that the kind of log fixes.
 pub trait Log: Sized {
@@ -30,4 +31,11 @@ pub trait Log: Sized {
         ensures { result ≡ at_place (entries self.now) place };
 
     ghost bounded: { limit ≤ 4096 };
+}
+
+// What a full log answers.
+pub(crate) fn full() -> Fault
+    ensures { result ≡ log_full }
+{
+    Fault::of(Refusal::Full, Layer::Log)
 }

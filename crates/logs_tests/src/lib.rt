@@ -25,7 +25,7 @@ fn fills_up<L: Log + Drop>(rt: &impl Abort, capacity: u16) -> Result<(), Fail> {
     let Err(fault) = log.add(7) else {
         return Err(Fail::new("a full log took a number"));
     };
-    assert_eq!(rt; fault.number.number(), 4);
+    assert_eq!(rt; u32::from(fault.number), 4);
     assert_eq!(rt; fault.field, None);
     assert_eq!(rt; fault.layer.name(), "log");
     assert_eq!(rt; log.length(), usize::from(capacity));
