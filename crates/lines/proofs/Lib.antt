@@ -1,2 +1,4 @@
-pub mod Turns
+pub mod Parts
+pub mod Parsed
+pub mod Rising
 pub mod Writes

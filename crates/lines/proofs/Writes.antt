@@ -1,11 +1,13 @@
--- One turn of each loop that writes.
-use Rattle.std.proofs.Common.{◌≡◌, ℕ, suc, ◌+◌, ◌-◌, ◌<◌, ◌≤◌, true, false, ltb, List, [], ◌∷◌, ◌++◌, map, length, get_or, drop, Some, decimal, sym, refl, ap, ◌∙◌, append_assoc, arith}
-use Rattle.std.proofs.lemmas.List.{append-nil, at_drop_more}
-use Rattle.std.proofs.lemmas.Bool.{cond-true, cond-false, lt-ltb, le-ltb}
+-- One turn of the loop that writes voters, and how many they are.
+use Rattle.std.proofs.Common.{◌≡◌, ℕ, zero, suc, ◌+◌, ◌-◌, ◌<◌, ◌≤◌, true, false, cond, eqb, List, [], ◌∷◌, ◌++◌, length, decimal, sym, refl, ap, ◌∙◌, append_assoc, add-zero, add-one, zero-add, arith}
+use Rattle.std.proofs.lemmas.Fmt.{length-decimal-le}
+use Rattle.std.proofs.lemmas.List.{append-nil}
+use Rattle.std.proofs.lemmas.Bool.{cond-true, cond-false}
 use Rattle.terms.specs.declared.voters.Voters.{Voters}
-use Rattle.terms.specs.Votes.{votes}
+use Rattle.terms.specs.Tests.{tally}
+use Rattle.terms.specs.Votes.{votes, vote_count}
 use Rattle.lines.specs.Limits.{largest}
-use Rattle.lines.specs.Writing.{first_large, members, tabbed}
+use Rattle.lines.specs.Writing.{members, set_of, nobody}
 
 -- what is written and what is left are all, before m is written and after
 pub joins : (t t' m r r' all : List ℕ) → t' ≡ t ++ m → r ≡ m ++ r' → t ++ r ≡ all → t' ++ r' ≡ all
@@ -15,15 +17,9 @@ joins t t' m r r' all a b e = rw a (append_assoc t m r' ∙ (ap (λ x. t ++ x) (
 pub joined : (t r all : List ℕ) → r ≡ [] → t ++ r ≡ all → t ≡ all
 joined t r all z e = sym (append-nil t) ∙ (ap (λ x. t ++ x) (sym z) ∙ e)
 
-module _ (xs : List ℕ) (i : ℕ) (h : i < length xs) where
-  pub numbers_on : tabbed (map decimal (drop i xs)) ≡ (9 ∷ decimal (get_or xs i 0)) ++ tabbed (map decimal (drop (i + 1) xs))
-  numbers_on = at_drop_more (λ l. tabbed (map decimal l)) xs i 0 h
-
-  pub large_stop : (place : ℕ) → largest < get_or xs i 0 → first_large place (drop i xs) ≡ Some place
-  large_stop place e = at_drop_more (first_large place) xs i 0 h ∙ cond-true (ltb largest (get_or xs i 0)) _ _ (lt-ltb _ _ e)
-
-  pub large_on : (place : ℕ) → get_or xs i 0 ≤ largest → first_large place (drop i xs) ≡ first_large (place + 1) (drop (i + 1) xs)
-  large_on place e = at_drop_more (first_large place) xs i 0 h ∙ cond-false (ltb largest (get_or xs i 0)) _ _ (le-ltb _ _ e)
+-- a number that is not too large has six digits at most
+pub short : (n : ℕ) → n ≤ largest → length (decimal n) ≤ 6
+short n h = length-decimal-le 6 n (omega arith) (omega arith) (omega arith)
 
 module _ (d : ℕ) (v : Voters) where
   pub members_on : d < 10 → true ≡ votes v d
@@ -35,3 +31,24 @@ module _ (d : ℕ) (v : Voters) where
 
   pub members_end : 10 ≤ d → members (10 - d) d v ≡ []
   members_end h = let z : 10 - d ≡ 0 = omega arith in rw z refl
+
+-- the digits of the voters are as many as are counted
+digits_counted : (k d : ℕ) (v : Voters) → tally (d + k) (votes v) ≡ tally d (votes v) + length (members k d v)
+digits_counted zero d v = ap (λ n. tally n (votes v)) (add-zero d) ∙ sym (add-zero (tally d (votes v)))
+digits_counted (suc k) d v =
+    let p = votes v in
+    let m = members k (d + 1) v in
+    let next : d + suc k ≡ d + 1 + k = omega arith in
+    let here : tally (suc d) p + length m ≡ tally d p + length (members (suc k) d v) =
+    elim (p d) as (λ b. cond b (suc (tally d p)) (tally d p) + length m ≡ tally d p + length (cond b ((48 + d) ∷ m) m)) [
+      | true ↦ omega arith
+      | false ↦ refl
+    ] in
+    ap (λ n. tally n p) next ∙ (digits_counted k (d + 1) v ∙ (ap (λ n. tally n p + length m) (add-one d) ∙ here))
+
+pub vote_count_is : (v : Voters) → vote_count v ≡ length (set_of v)
+unfolding vote_count set_of
+vote_count_is v = digits_counted 10 0 v ∙ zero-add (length (members 10 0 v))
+
+pub nobody_is : (v : Voters) (n : ℕ) → n ≡ vote_count v → nobody v ≡ eqb n 0
+nobody_is v n e = ap (λ m. eqb m 0) (sym (e ∙ vote_count_is v))

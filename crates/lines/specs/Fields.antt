@@ -1,25 +1,24 @@
--- What is left of a line, and what it means that a field of a form was taken from it.
-use Rattle.std.specs.Prelude.{◌≡◌, ℕ, true, List, length, is_some, None, Option, MatchOption, ◌≢◌}
-use Rattle.std.specs.Borrow.{Bor}
-use Rattle.lines.specs.declared.field.Field.{Field}
-use Rattle.lines.specs.declared.field.Field.TheVariants.{Letter, Number, Set}
+-- The rest of a line as it is seen between its fields, and what its next field is.
+use Rattle.std.specs.Prelude.{◌≡◌, ℕ, ◌+◌, Bool, List, Ok, Result, ◌<◌}
+use Rattle.base.specs.declared.fault.Fault.{Fault}
+use Rattle.terms.specs.declared.voters.Voters.{Voters}
 use Rattle.lines.specs.declared.field.Rest.{Rest}
-use Rattle.lines.specs.Forms.{number, set}
+use Rattle.lines.specs.Forms.{back, front, number, set}
+use Rattle.lines.specs.Reading.{with_field, flag}
 
 abbrev pub left : Rest → List ℕ
 left r = r.bytes.now
 
--- r is the field `bs`, at `place`, as a letter; or there is none, and `bs` is not one byte
-abbrev pub AsLetter : List ℕ → ℕ → Option Field → Type 0
-AsLetter bs place r =
-    MatchOption r (length bs ≢ 1) (λ f. (b : Bor (List ℕ)) × (f ≡ Letter b place) × (b.now ≡ bs) × (length b.now ≡ 1))
+-- one field more was taken; the count of places stops at 255, and a line has no field so far on
+abbrev pub Moves : Rest → Rest → Type 0
+Moves r s = (left s ≡ back (left r)) × (r.place < 255 → s.place ≡ r.place + 1)
 
--- the same, as a number
-abbrev pub AsNumber : List ℕ → ℕ → Option Field → Type 0
-AsNumber bs place r =
-    MatchOption r (number bs ≡ None) (λ f. (b : Bor (List ℕ)) × (f ≡ Number b place) × (b.now ≡ bs) × (is_some (number b.now) ≡ true))
+-- what a field at `place` is as a number, as a flag and as a set, where the bytes begin with it
+abbrev pub number_field : List ℕ → ℕ → Result ℕ Fault
+number_field bs place = with_field place (number (front bs)) Ok
 
--- the same, as a set
-abbrev pub AsSet : List ℕ → ℕ → Option Field → Type 0
-AsSet bs place r =
-    MatchOption r (set bs ≡ None) (λ f. (b : Bor (List ℕ)) × (f ≡ Set b place) × (b.now ≡ bs) × (is_some (set b.now) ≡ true))
+abbrev pub flag_field : List ℕ → ℕ → Result Bool Fault
+flag_field bs place = with_field place (number (front bs)) (λ n. with_field place (flag n) Ok)
+
+abbrev pub set_field : List ℕ → ℕ → Result Voters Fault
+set_field bs place = with_field place (set (front bs)) Ok

@@ -22,10 +22,11 @@ pub(crate) fn body(line: &[u8]) -> Result<&[u8], Fault>
     if line.len() > LONGEST {
         return Err(refused(Refusal::BadLine));
     }
+    // By a rule of this project each byte of a line is looked at in one loop with its index.
     for (i, b) in line.iter().enumerate() {
         if *b == b'\n' {
             return if i + 1 == line.len() {
-                Ok(&line[0..i])
+                Ok(&line[..i])
             } else {
                 Err(refused(Refusal::BadLine))
             };

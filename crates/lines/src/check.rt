@@ -9,6 +9,6 @@ pub fn lidvauma_check_line(line: &[u8]) -> u32
 {
     match read_line(line) {
         Ok(_) => 0,
-        Err(fault) => u32::from(fault.number.number()),
+        Err(fault) => u32::from(fault.number),
     }
 }

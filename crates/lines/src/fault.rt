@@ -14,9 +14,5 @@ pub(crate) fn refused(number: Refusal) -> Fault
 pub(crate) fn bad_field(place: u8) -> Fault
     ensures { result ≡ bad_field place }
 {
-    Fault {
-        number: Refusal::BadField,
-        field: Some(place),
-        layer: Layer::Text,
-    }
+    Fault::at(place, Refusal::BadField, Layer::Text)
 }

@@ -1,15 +1,16 @@
-ghost use Rattle.std.specs.Prelude.{◌≡◌, ◌+◌, ◌<◌, ◌≤◌, length};
+ghost use Rattle.std.specs.Prelude.{◌≡◌, ◌+◌, Bool, true, false, MatchOption};
 ghost use Rattle.lines.specs.Faults.{bad_field};
-ghost use Rattle.lines.specs.Fields.{AsLetter, AsNumber, AsSet, left};
+ghost use Rattle.lines.specs.Fields.{Moves, flag_field, number_field, set_field, left};
 ghost use Rattle.lines.specs.Forms.{back, front, tabs};
-ghost use Rattle.lines.specs.Limits.{longest};
 
 use crate::fault::bad_field;
-use crate::number::number;
-use crate::set::set;
+use crate::number::{number, value};
+use crate::set::{members, set};
 use base::Fault;
+use terms::Voters;
 
-// A field of a line: its bytes, and its place, 1 for the letter.
+// A field of a line: its bytes, and its place, 1 for the letter. By a rule of this project a field is kept as a part of
+// its line and taken by `let .. else`, so its bytes are read again for their value.
 #[derive(Clone, Copy)]
 pub(crate) enum Field<'a> {
     Letter(&'a [u8], u8),
@@ -17,109 +18,127 @@ pub(crate) enum Field<'a> {
     Set(&'a [u8], u8),
 }
 
-// How many bytes come before the first tab.
-fn run(bytes: &[u8]) -> usize
-    ensures { result ≡ length (front bytes.now) }
-{
-    for (i, b) in bytes.iter().enumerate() {
-        if *b == b'\t' {
-            return i;
-        }
-    }
-    bytes.len()
-}
-
 // The first field, and what comes after its tab.
 fn cut(bytes: &[u8]) -> (&[u8], &[u8])
     ensures front { result.0.now ≡ front bytes.now }
     ensures back { result.1.now ≡ back bytes.now }
 {
-    let n = run(bytes);
-    let (front, rest) = bytes.split_at(n);
-    match rest {
-        [] => (front, rest),
-        [_, back @ ..] => (front, back),
+    match bytes.iter().position(|b| *b == b'\t') {
+        Some(n) => (&bytes[..n], &bytes[n + 1..]),
+        None => (bytes, &[]),
     }
 }
 
 // How many fields the bytes have.
 pub(crate) fn count(bytes: &[u8]) -> usize
-    requires { length bytes.now ≤ longest }
     ensures { result ≡ 1 + tabs bytes.now }
 {
-    let mut n = 1usize;
-    for b in bytes {
-        if *b == b'\t' {
-            n += 1;
-        }
-    }
-    n
+    1 + bytes.iter().filter(|b| **b == b'\t').count()
 }
 
 // What is left of a line, and the place of the field that was taken last.
 #[derive(Clone, Copy)]
 pub(crate) struct Rest<'a> {
-    pub(crate) bytes: &'a [u8],
-    pub(crate) place: u8,
+    bytes: &'a [u8],
+    place: u8,
 }
 
 impl<'a> Rest<'a> {
+    // All the fields of a line.
+    pub(crate) fn whole(bytes: &'a [u8]) -> Rest<'a>
+        ensures bytes { left result ≡ bytes.now }
+        ensures place { result.place ≡ 0 }
+    {
+        Rest { bytes, place: 0 }
+    }
+
+    // The fields after the letter.
+    pub(crate) fn after_letter(bytes: &'a [u8]) -> Rest<'a>
+        ensures bytes { left result ≡ bytes.now }
+        ensures place { result.place ≡ 1 }
+    {
+        Rest { bytes, place: 1 }
+    }
+
+    pub(crate) fn bytes(&self) -> &'a [u8]
+        ensures { result.now ≡ left self.now }
+    {
+        self.bytes
+    }
+
+    // The bytes of the next field, which is then taken.
     fn next(&mut self) -> &'a [u8]
-        requires { self.old.place < 6 }
         ensures front { result.now ≡ front (left self.old) }
-        ensures back { left self.new ≡ back (left self.old) }
-        ensures place { self.new.place ≡ self.old.place + 1 }
+        ensures moves { Moves self.old self.new }
     {
         let (front, back) = cut(self.bytes);
         self.bytes = back;
-        self.place += 1;
+        self.place = self.place.saturating_add(1);
         front
     }
 
-    pub(crate) fn number(&mut self) -> Option<Field<'a>>
-        requires { self.old.place < 6 }
-        ensures form { AsNumber (front (left self.old)) (self.old.place + 1) result }
-        ensures back { left self.new ≡ back (left self.old) }
-        ensures place { self.new.place ≡ self.old.place + 1 }
+    // The next field as `case` makes it of its bytes and its place, if `fits` takes the bytes.
+    pub(crate) fn take<P: FnOnce(&[u8]) -> bool, M: FnOnce(&'a [u8], u8) -> Field<'a>>(
+        &mut self,
+        fits: P,
+        case: M,
+    ) -> Option<Field<'a>>
+        requires fits { P.IsAlwaysCallable fits }
+        requires case { M.IsAlwaysCallable case }
+        ensures field { (b : _) × (b.now ≡ front (left self.old)) × (yes : Bool) × P.post fits b yes
+            × MatchOption result (yes ≡ false) (λ f. (yes ≡ true) × M.post case b self.new.place f) }
+        ensures moves { Moves self.old self.new }
     {
         let bytes = self.next();
-        match number(bytes) {
-            Some(_) => Some(Field::Number(bytes, self.place)),
-            None => None,
-        }
-    }
-
-    pub(crate) fn set(&mut self) -> Option<Field<'a>>
-        requires { self.old.place < 6 }
-        ensures form { AsSet (front (left self.old)) (self.old.place + 1) result }
-        ensures back { left self.new ≡ back (left self.old) }
-        ensures place { self.new.place ≡ self.old.place + 1 }
-    {
-        let bytes = self.next();
-        match set(bytes) {
-            Some(_) => Some(Field::Set(bytes, self.place)),
-            None => None,
-        }
-    }
-
-    pub(crate) fn letter(&mut self) -> Option<Field<'a>>
-        requires { self.old.place < 6 }
-        ensures form { AsLetter (front (left self.old)) (self.old.place + 1) result }
-        ensures back { left self.new ≡ back (left self.old) }
-        ensures place { self.new.place ≡ self.old.place + 1 }
-    {
-        let bytes = self.next();
-        if bytes.len() == 1 {
-            Some(Field::Letter(bytes, self.place))
+        if fits(bytes) {
+            Some(case(bytes, self.place))
         } else {
             None
         }
     }
 
     // The fault of the field that was taken last.
-    pub(crate) fn fault(&self) -> Fault
+    fn fault(&self) -> Fault
         ensures { result ≡ bad_field self.now.place }
     {
         bad_field(self.place)
+    }
+
+    // The next field as a number, or its fault.
+    pub(crate) fn number(&mut self) -> Result<u32, Fault>
+        ensures value { result ≡ number_field (left self.old) self.new.place }
+        ensures moves { Moves self.old self.new }
+    {
+        let Some(Field::Number(bytes, _)) = self.take(|b| number(b).is_some(), Field::Number) else {
+            return Err(self.fault());
+        };
+        Ok(value(bytes))
+    }
+
+    // The next field as a flag, 0 or 1, or its fault.
+    pub(crate) fn flag(&mut self) -> Result<bool, Fault>
+        ensures value { result ≡ flag_field (left self.old) self.new.place }
+        ensures moves { Moves self.old self.new }
+    {
+        let Some(Field::Number(bytes, place)) = self.take(|b| number(b).is_some(), Field::Number)
+        else {
+            return Err(self.fault());
+        };
+        match value(bytes) {
+            0 => Ok(false),
+            1 => Ok(true),
+            _ => Err(bad_field(place)),
+        }
+    }
+
+    // The next field as a set of voters, or its fault.
+    pub(crate) fn voters(&mut self) -> Result<Voters, Fault>
+        ensures value { result ≡ set_field (left self.old) self.new.place }
+        ensures moves { Moves self.old self.new }
+    {
+        let Some(Field::Set(bytes, _)) = self.take(|b| set(b).is_some(), Field::Set) else {
+            return Err(self.fault());
+        };
+        Ok(members(bytes))
     }
 }

@@ -1,30 +1,18 @@
 ghost use Rattle.std.specs.Prelude.{◌≡◌, true, is_some, Some};
-ghost use Rattle.lines.specs.Forms.{rises as rises_of, set as set_of};
+ghost use Rattle.lines.specs.Forms.{set as set_of};
 
+use crate::number::digits;
 use terms::Voters;
-
-// A digit, and at least `low`.
-fn rises(low: u8, b: u8) -> bool
-    ensures { result ≡ rises_of low b }
-{
-    b.is_ascii_digit() && low <= b - b'0'
-}
 
 // The voters that `bytes` name: one digit or more, each above the one before.
 pub(crate) fn set(bytes: &[u8]) -> Option<Voters>
     ensures { result ≡ set_of bytes.now }
 {
-    let mut voters = Voters::none();
-    let mut low = 0u8;
-    for b in bytes {
-        if !rises(low, *b) {
-            return None;
-        }
-        let d = *b - b'0';
-        voters = voters.with(u32::from(d));
-        low = d + 1;
+    if bytes.is_empty() || !digits(bytes) || !bytes.is_sorted_by(|a, b| a < b) {
+        return None;
     }
-    if low == 0 { None } else { Some(voters) }
+    let digits = bytes.iter().map(|b| u32::from(*b - b'0'));
+    Some(digits.fold(Voters::none(), Voters::with))
 }
 
 // The same, of bytes that are known to be a set.

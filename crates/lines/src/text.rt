@@ -1,75 +1,45 @@
-ghost use Rattle.std.specs.Prelude.{◌≡◌, ◌+◌, ◌<◌, ◌≤◌, [], ◌∷◌, ◌++◌, length, decimal};
-ghost use Rattle.lines.specs.Limits.{longest, largest};
-ghost use Rattle.lines.specs.Texts.{content};
-ghost use Rattle.lines.specs.Writing.{set_of};
+ghost use Rattle.std.specs.Prelude.{◌≡◌, ◌+◌, ◌≤◌};
+ghost use Rattle.arrayvec.specs.ArrayString.{array_string_len};
+ghost use Rattle.lines.specs.Limits.{longest};
+ghost use Rattle.lines.specs.Texts.{PutNumber, PutVoters};
 
-use crate::limits::LONGEST;
+use crate::fault::bad_field;
+use crate::limits::{LARGEST, LONGEST};
+use arrayvec::ArrayString;
+use base::Fault;
+use itoa::Buffer;
 use terms::Voters;
 
-// A line that is being made: the first `len` of the bytes.
-#[derive(Clone, Copy)]
-pub(crate) struct Text {
-    pub(crate) bytes: [u8; LONGEST],
-    pub(crate) len: usize,
+// A line that is being made.
+pub(crate) type Text = ArrayString<LONGEST>;
+
+// A tab and the number at `place`, of six digits at most; or the fault of that field, if the number is too large.
+pub(crate) fn put_number(text: &mut Text, place: u8, n: u32) -> Result<(), Fault>
+    requires { array_string_len text.old + 7 ≤ longest }
+    ensures { PutNumber n place text.old text.new result }
+{
+    if n > LARGEST {
+        return Err(bad_field(place));
+    }
+    text.push('\t');
+    text.push_str(Buffer::new().format(n));
+    Ok(())
 }
 
-impl Text {
-    pub(crate) fn new() -> Text
-        ensures content { content result ≡ [] }
-        ensures len { result.len ≡ 0 }
-    {
-        Text {
-            bytes: [0; LONGEST],
-            len: 0,
+// A tab and the digits of the voters at `place`, ten at most; or the fault of that field, if there are none.
+pub(crate) fn put_voters(text: &mut Text, place: u8, voters: Voters) -> Result<(), Fault>
+    requires { array_string_len text.old + 11 ≤ longest }
+    ensures { PutVoters voters place text.old text.new result }
+{
+    if voters.count() == 0 {
+        return Err(bad_field(place));
+    }
+    text.push('\t');
+    // A loop and no chain: after for_each a proof knows nothing of what its closure changed.
+    for d in 0..10u8 {
+        if voters.has(u32::from(d)) {
+            text.push(char::from(b'0' + d));
         }
     }
-
-    pub(crate) fn push(&mut self, b: u8)
-        requires { self.old.len < longest }
-        ensures content { content self.new ≡ content self.old ++ b ∷ [] }
-        ensures len { self.new.len ≡ self.old.len + 1 }
-    {
-        self.bytes[self.len] = b;
-        self.len += 1;
-    }
-
-    // The digits of `n`, which are six at most.
-    fn digits(&mut self, n: u32)
-        requires n_le_largest { n ≤ largest }
-        requires len_bound { self.old.len + 6 ≤ longest }
-        ensures content { content self.new ≡ content self.old ++ decimal n }
-        ensures len { self.new.len ≡ self.old.len + length (decimal n) }
-        ensures bound { self.new.len ≤ self.old.len + 6 }
-    {
-        if n < 10 {
-            return self.push(b'0' + n as u8);
-        }
-        self.digits(n / 10);
-        self.push(b'0' + (n % 10) as u8);
-    }
-
-    // A tab and then `n`.
-    pub(crate) fn number(&mut self, n: u32)
-        requires n_le_largest { n ≤ largest }
-        requires len_bound { self.old.len + 7 ≤ longest }
-        ensures content { content self.new ≡ content self.old ++ 9 ∷ decimal n }
-        ensures bound { self.new.len ≤ self.old.len + 7 }
-    {
-        self.push(b'\t');
-        self.digits(n);
-    }
-
-    // A tab and then the digits of the voters, which are ten at most.
-    pub(crate) fn members(&mut self, voters: Voters)
-        requires { self.old.len + 11 ≤ longest }
-        ensures content { content self.new ≡ content self.old ++ 9 ∷ set_of voters }
-        ensures bound { self.new.len ≤ self.old.len + 11 }
-    {
-        self.push(b'\t');
-        for d in 0..10u8 {
-            if voters.has(u32::from(d)) {
-                self.push(b'0' + d);
-            }
-        }
-    }
+    Ok(())
 }

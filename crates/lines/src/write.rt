@@ -1,77 +1,48 @@
-ghost use Rattle.std.specs.Prelude.{◌≡◌, ◌≤◌, [], ◌∷◌, ◌++◌, map, length, decimal};
-ghost use Rattle.terms.specs.declared.calls.Call.TheVariants.{Change};
-ghost use Rattle.lines.specs.declared.step.Step.TheVariants.{Call as Asks};
-ghost use Rattle.lines.specs.Texts.{Made};
-ghost use Rattle.lines.specs.Writing.{nobody as nobody_of, first_large, tabbed, line_of, unwritable, outcome, written};
+ghost use Rattle.std.specs.Prelude.{◌≡◌, ◌+◌, ◌*◌, ◌≤◌, ◌∷◌, map, length, decimal};
+ghost use Rattle.lines.specs.Texts.{Begun, front_of};
+ghost use Rattle.lines.specs.Writing.{first_large, tabbed, unwritable, outcome, written};
 
-use crate::fault::{bad_field, refused};
-use crate::limits::{LARGEST, LONGEST};
+use crate::fault::refused;
+use crate::limits::LONGEST;
 use crate::step::Step;
-use crate::text::Text;
+use crate::text::{Text, put_number, put_voters};
 use base::{Fault, Refusal};
-use terms::{Call, Voters};
-
-// No voter is named.
-fn nobody(voters: Voters) -> bool
-    ensures { result ≡ nobody_of voters }
-{
-    for d in 0..10u32 {
-        if voters.has(d) {
-            return false;
-        }
-    }
-    true
-}
+use terms::Call;
 
 // A letter, and numbers after tabs.
 fn numbers(letter: char, values: &[u32]) -> Result<Text, Fault>
     requires letter_bound { letter ≤ 127 }
     requires values_len_bound { length values.now ≤ 5 }
-    ensures { Made (first_large 2 values.now) (letter ∷ (tabbed (map decimal values.now) ++ 10 ∷ [])) result }
+    ensures { Begun (first_large 2 values.now) (letter ∷ tabbed (map decimal values.now)) (1 + 7 * length values.now) result }
 {
     let mut text = Text::new();
-    text.push(letter as u8);
-    for (i, n) in values.iter().enumerate() {
-        if *n > LARGEST {
-            return Err(bad_field(2 + i as u8));
-        }
-        text.number(*n);
+    text.push(letter);
+    for (place, n) in (2..).zip(values) {
+        put_number(&mut text, place, *n)?;
     }
-    text.push(b'\n');
     Ok(text)
 }
 
-// A new leader and the voters.
-fn change(leader: u32, voters: Voters) -> Result<Text, Fault>
-    ensures { Made (unwritable (Asks (Change leader voters))) (line_of (Asks (Change leader voters))) result }
+// The line of a step without its end, or the fault of its first field that has no form.
+fn begun(step: Step) -> Result<Text, Fault>
+    ensures { Begun (unwritable step) (front_of step) 36 result }
 {
-    if leader > LARGEST {
-        return Err(bad_field(2));
-    }
-    if nobody(voters) {
-        return Err(bad_field(3));
-    }
-    let mut text = Text::new();
-    text.push(b'L');
-    text.number(leader);
-    text.members(voters);
-    text.push(b'\n');
-    Ok(text)
-}
-
-// The line of a step, or the fault of its first field that has no form.
-fn made(step: Step) -> Result<Text, Fault>
-    ensures { Made (unwritable step) (line_of step) result }
-{
+    let letter = char::from(step);
     match step {
-        Step::Start(s) => numbers('W', &[s.size, s.leader, u32::from(s.fast)]),
-        Step::Call(Call::Propose(r)) => numbers('P', &[r.book, r.act, r.x, r.y, r.z]),
-        Step::Call(Call::Receive { replica, job }) => numbers('R', &[replica, job]),
-        Step::Call(Call::Hear { replica, job }) => numbers('H', &[replica, job]),
-        Step::Call(Call::Notice { replica, job }) => numbers('N', &[replica, job]),
-        Step::Call(Call::Sync) => numbers('Y', &[]),
-        Step::Call(Call::Change { leader, voters }) => change(leader, voters),
-        Step::Call(Call::Query { job }) => numbers('Q', &[job]),
+        Step::Start(s) => numbers(letter, &[s.size, s.leader, u32::from(s.fast)]),
+        Step::Call(Call::Propose(r)) => numbers(letter, &[r.book, r.act, r.x, r.y, r.z]),
+        Step::Call(
+            Call::Receive { replica, job }
+            | Call::Hear { replica, job }
+            | Call::Notice { replica, job },
+        ) => numbers(letter, &[replica, job]),
+        Step::Call(Call::Sync) => numbers(letter, &[]),
+        Step::Call(Call::Change { leader, voters }) => {
+            let mut text = numbers(letter, &[leader])?;
+            put_voters(&mut text, 3, voters)?;
+            Ok(text)
+        }
+        Step::Call(Call::Query { job }) => numbers(letter, &[job]),
     }
 }
 
@@ -83,8 +54,9 @@ pub fn write_line(step: Step, out: &mut [u8]) -> Result<usize, Fault>
     if out.len() < LONGEST {
         return Err(refused(Refusal::ShortBuffer));
     }
-    let text = made(step)?;
-    let n = text.len;
-    out[0..n].copy_from_slice(&text.bytes[0..n]);
+    let mut text = begun(step)?;
+    text.push('\n');
+    let n = text.len();
+    out[..n].copy_from_slice(text.as_str().as_bytes());
     Ok(n)
 }

@@ -1,39 +1,18 @@
 -- A number and its digits: what is written is read, and what is read is what is written.
-use Rattle.std.proofs.Common.{◌≡◌, ℕ, ◌+◌, ◌-◌, ◌*◌, ◌<◌, ◌≤◌, Bool, true, false, cond, leb, ◌⊎◌, List, [], ◌∷◌, length, get_or, Some, None, decimal, Option, sym, refl, ap, ◌∙◌, inl, inr, ⊎_elim, arith, rules}
+use Rattle.std.proofs.Common.{◌≡◌, ℕ, ◌+◌, ◌-◌, ◌*◌, ◌<◌, ◌≤◌, Bool, true, false, cond, leb, ◌⊎◌, List, [], ◌∷◌, length, get_or, Some, None, decimal, Option, sym, refl, ap, ◌∙◌, inl, inr, ⊎_elim, arith}
 use Rattle.std.specs.Str.{all_ascii_digits}
-use Rattle.std.proofs.lemmas.Fmt.{digits_decimal, digits_value-decimal, decimal_digit, decimal_nonempty, first_decimal, length-decimal-le, decimal-digits_value}
-use Rattle.std.proofs.lemmas.Str.Parse.{IsNumeralModel, numerals_by_fold, tells_all_ascii_digits}
-use Rattle.std.proofs.lemmas.Bool.{and_parts, and_from, cond-true, le-leb, leb-true, cases_lt}
+use Rattle.std.proofs.lemmas.Fmt.{digits_decimal, digits_value-decimal, decimal_digit, decimal_nonempty, first_decimal, decimal-digits_value}
+use Rattle.std.proofs.lemmas.Bool.{and_from, cond-true, leb-true, cases_lt}
 use Rattle.std.proofs.lemmas.Bool.Decides.{nat_tests}
+use Rattle.std.proofs.lemmas.Option.{none-some}
+use Rattle.lines.proofs.Parsed.{read_on, own, small}
 use Rattle.lines.specs.Forms.{digit, led, number, digits_after}
 use Rattle.lines.specs.Limits.{largest}
-
-pub none_some : {A : Type 0} (x : A) → None ≡ Some x → ⊥
-none_some x e = let z : ◌≡◌ {A = ℕ} 0 1 = cc in omega arith
 
 -- a test that gave something passed
 pub cond_some : {A : Type 0} (b : Bool) (o : Option A) (x : A) → cond b o None ≡ Some x → (b ≡ true) × (o ≡ Some x)
 cond_some true o x e = (refl, e)
-cond_some false o x e = absurd (none_some x e)
-
--- the value of digits after n
-abbrev read_on : ℕ → List ℕ → ℕ
-read_on n [] = n
-read_on n (c ∷ cs) = read_on (n * 10 + (c - 48)) cs
-
-own : IsNumeralModel (λ ds. all_ascii_digits ds ≡ true) (read_on 0)
-own = numerals_by_fold _ tells_all_ascii_digits read_on (search rules)
-
-grows : (n : ℕ) (bs : List ℕ) → n ≤ read_on n bs
-grows n [] = omega arith
-grows n (c ∷ cs) = omega (arith, grows (n * 10 + (c - 48)) cs)
-
-digits_read : (n : ℕ) (bs : List ℕ) → all_ascii_digits bs ≡ true → read_on n bs ≤ largest → digits_after n bs ≡ Some (read_on n bs)
-digits_read n [] p h = refl
-digits_read n (c ∷ cs) p h =
-    let q = and_parts (digit c) (all_ascii_digits cs) p in
-    let m : n * 10 + (c - 48) ≤ largest = omega (arith, grows (n * 10 + (c - 48)) cs) in
-    cond-true (digit c) _ _ q.0 ∙ (cond-true (leb (n * 10 + (c - 48)) largest) _ _ (le-leb _ _ m) ∙ digits_read (n * 10 + (c - 48)) cs q.1 h)
+cond_some false o x e = absurd (none-some x e)
 
 digits_tell : (n : ℕ) (bs : List ℕ) (m : ℕ) → n ≤ largest → digits_after n bs ≡ Some m
     → (all_ascii_digits bs ≡ true) × (read_on n bs ≡ m) × (m ≤ largest)
@@ -53,21 +32,18 @@ led_tells bs e = (grind (arith, nat_tests), λ z. grind (arith, nat_tests))
 pub plain : (n : ℕ) → n ≤ largest → all_ascii_digits (decimal n) ≡ true
 plain n s = digits_decimal own n (omega arith)
 
-pub short : (n : ℕ) → n ≤ largest → length (decimal n) ≤ 6
-short n s = length-decimal-le 6 n (omega arith) (omega arith) (omega arith)
-
 pub number_back : (n : ℕ) → n ≤ largest → number (decimal n) ≡ Some n
 number_back n s =
     let front_is : (length (decimal n) ≡ 1) ⊎ (48 < get_or (decimal n) 0 0) =
     ⊎_elim (λ h. inr (first_decimal n h (omega arith))) (λ h. inl (ap length (decimal_digit n (omega arith)))) (cases_lt 0 n) in
     let v = digits_value-decimal own n (omega arith) in
     cond-true (led (decimal n)) _ _ (led_by (decimal n) (decimal_nonempty n (omega arith)) front_is)
-    ∙ (digits_read 0 (decimal n) (plain n s) (rw v s) ∙ ap Some v)
+    ∙ (small 0 (decimal n) (plain n s) (rw v s) ∙ ap Some v)
 
 pub number_only : (bs : List ℕ) (n : ℕ) → number bs ≡ Some n → (n ≤ largest) × (decimal n ≡ bs)
 number_only bs n e =
     let p = cond_some (led bs) _ n e in
     let t = digits_tell 0 bs n (omega arith) p.1 in
     let f = led_tells bs p.0 in
-    let small : read_on 0 bs ≤ largest = rw t.1 t.2 in
+    let low : read_on 0 bs ≤ largest = rw t.1 t.2 in
     (t.2, ap decimal (sym t.1) ∙ decimal-digits_value own bs t.0 f.0 f.1 (omega arith))

@@ -7,13 +7,14 @@ use Rattle.terms.specs.declared.calls.Call.TheVariants.{Receive, Hear, Sync, Not
 use Rattle.lines.specs.declared.step.Step.{Step}
 use Rattle.lines.specs.declared.step.Step.TheVariants.{Call as Asks}
 use Rattle.lines.specs.Faults.{refused}
+use Rattle.std.proofs.lemmas.Option.{none-some}
 use Rattle.lines.specs.Forms.{number, set, front, back, tabs, ended, body, fits}
 use Rattle.lines.specs.Limits.{longest, largest}
 use Rattle.lines.specs.Letters.{setting_letter, propose_letter, receive_letter, hear_letter, notice_letter, sync_letter, change_letter, query_letter}
 use Rattle.lines.specs.Reading.{step_of, letter, with_field, from_pair, counted, setting, proposal, pair, change, query, flag}
 use Rattle.lines.specs.Writing.{set_of, nobody, bit, tabbed, line_of, first_large, unwritable}
 use Rattle.lines_laws.specs.Laws.{Sound, Gives, WritesBack}
-use Rattle.lines_laws.proofs.Numbers.{number_only, none_some}
+use Rattle.lines_laws.proofs.Numbers.{number_only}
 use Rattle.lines_laws.proofs.Sets.{set_only}
 use Rattle.lines_laws.proofs.Parts.{Cut, joined, ended_line}
 use Rattle.lines_laws.proofs.Written.{AllSmall}
@@ -48,7 +49,7 @@ paired (Err f) make s e = absurd (err_ok f s e)
 flag_tells : (x y b : Bool) → cond x (Some false) (cond y (Some true) None) ≡ Some b → ((x ≡ true) × (b ≡ false)) ⊎ ((y ≡ true) × (b ≡ true))
 flag_tells true y b e = let k : b ≡ false = cc in inl (refl, k)
 flag_tells false true b e = let k : b ≡ true = cc in inr (refl, k)
-flag_tells false false b e = absurd (none_some b e)
+flag_tells false false b e = absurd (none-some b e)
 
 flagged : (n : ℕ) (b : Bool) → flag n ≡ Some b → n ≡ bit b
 flagged n b e =

@@ -2,15 +2,16 @@
 use Rattle.std.proofs.Common.{◌≡◌, ℕ, zero, suc, ◌+◌, ◌-◌, ◌<◌, ◌≤◌, Bool, true, false, cond, ◌&&◌, eqb, ltb, ◌⊎◌, List, [], ◌∷◌, ◌++◌, length, get_or, take, replicate, Some, None, Option, sym, refl, ap, ◌∙◌, subst, inl, inr, ⊎_elim, append_assoc, arith, length-set}
 use lib.ListN as lists
 use Rattle.std.specs.Str.{all_ascii_digits}
-use Rattle.std.proofs.lemmas.List.{append-nil, take_all, take_more, length-take-le, set_at, get_or-set_same, get_or-set_other}
-use Rattle.std.proofs.lemmas.Bool.{and_from, and_right, cases_Bool, cond-true, cond-false, le-leb, ne_eqb, lt-ltb}
+use Rattle.std.proofs.lemmas.List.{append-nil, take_all, take_more, length-take-le, set_at, get_or-set_same, get_or-set_other, get_or-replicate}
+use Rattle.std.proofs.lemmas.Bool.{and_from, and_left, and_right, cases_lt, le-ltb, cases_Bool, cond-true, cond-false, le-leb, ne_eqb, lt-ltb}
 use Rattle.std.proofs.lemmas.Bool.Decides.{nat_tests}
 use Rattle.terms.specs.declared.voters.Voters.{Voters}
 use Rattle.terms.specs.Votes.{votes, no_voters, with_voter}
+use Rattle.std.proofs.lemmas.Option.{none-some}
 use Rattle.lines.specs.Forms.{digit, rises, set, set_after}
 use Rattle.lines.specs.Writing.{members, set_of}
 use Rattle.lines.proofs.Writes.{members_on, members_past}
-use Rattle.lines_laws.proofs.Numbers.{none_some, cond_some}
+use Rattle.lines_laws.proofs.Numbers.{cond_some}
 
 -- digits of a set
 
@@ -109,16 +110,12 @@ pub record SetOnly (low : ℕ) (acc : Voters) (bs : List ℕ) (v : Voters) : Typ
 
 -- a test that gave something did not pass
 else_some : (b : Bool) (o : Option Voters) (v : Voters) → cond b None o ≡ Some v → o ≡ Some v
-else_some true o v e = absurd (none_some v e)
+else_some true o v e = absurd (none-some v e)
 else_some false o v e = e
 
 none_voted : (i : ℕ) → votes no_voters i ≡ false
-none_voted i = and_right (ltb i 10) _ (all_false 10 i)
-  where
-    all_false : (n i : ℕ) → get_or (replicate n false) i false ≡ false
-    all_false zero i = refl
-    all_false (suc n) zero = refl
-    all_false (suc n) (suc i) = all_false n i
+none_voted i =
+    ⊎_elim (λ a. and_right (ltb i 10) _ (get_or-replicate 10 i false false a)) (λ b. and_left (ltb i 10) _ (le-ltb i 10 b)) (cases_lt i 10)
 
 set_tells : (bs : List ℕ) (low : ℕ) (acc v : Voters) → low ≤ 10 → length acc.named ≡ 10
     → ((i : ℕ) → low ≤ i → votes acc i ≡ false) → set_after low acc bs ≡ Some v → SetOnly low acc bs v
@@ -146,7 +143,7 @@ set_tells (c ∷ cs) low acc v l t blank e =
 
 pub set_only : (bs : List ℕ) (v : Voters) → set bs ≡ Some v → (length v.named ≡ 10) × (set_of v ≡ bs) × (0 < length bs)
 unfolding set_of
-set_only [] v e = absurd (none_some v e)
+set_only [] v e = absurd (none-some v e)
 set_only (c ∷ cs) v e =
     let s = set_tells (c ∷ cs) 0 no_voters v (omega arith) refl (λ i h. none_voted i) e in
     (s.ten, s.digits, omega arith)

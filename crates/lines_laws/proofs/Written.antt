@@ -6,13 +6,15 @@ use Rattle.std.proofs.lemmas.Bool.Decides.{nat_tests}
 use Rattle.terms.specs.declared.voters.Voters.{Voters}
 use Rattle.terms.specs.declared.calls.Call.TheVariants.{Propose, Receive, Hear, Sync, Notice, Change, Query}
 use Rattle.lines.specs.declared.step.Step.TheVariants.{Start, Call as Asks}
+use Rattle.std.proofs.lemmas.Option.{none-some}
 use Rattle.lines.specs.Forms.{number, set, front, back, tabs, ended, body, fits, allowed}
 use Rattle.lines.specs.Limits.{longest, largest}
 use Rattle.lines.specs.Letters.{setting_letter, propose_letter, receive_letter, hear_letter, notice_letter, sync_letter, change_letter, query_letter}
 use Rattle.lines.specs.Reading.{step_of, letter, parse, setting, proposal, pair, change, query, flag}
 use Rattle.lines.specs.Writing.{set_of, nobody, bit, tabbed, line_of, first_large}
 use Rattle.lines_laws.specs.Laws.{ReadsBack, OneStep}
-use Rattle.lines_laws.proofs.Numbers.{plain, short, number_back, none_some}
+use Rattle.lines_laws.proofs.Numbers.{plain, number_back}
+use Rattle.lines.proofs.Writes.{short}
 use Rattle.lines_laws.proofs.Sets.{set_plain, set_back}
 use Rattle.lines_laws.proofs.Parts.{after, Plain, width, first, next, body_all, ended_all, tabs_all, width_all, front_all, back_all}
 
@@ -24,7 +26,7 @@ AllSmall (n ∷ ns) = (n ≤ largest) × AllSmall ns
 
 -- a test that gave nothing did not pass
 else_none : (b : Bool) (place : ℕ) (o : Option ℕ) → cond b (Some place) o ≡ None → (b ≡ false) × (o ≡ None)
-else_none true place o e = absurd (none_some place (sym e))
+else_none true place o e = absurd (none-some place (sym e))
 else_none false place o e = (refl, e)
 
 none_large : (ns : List ℕ) (place : ℕ) → first_large place ns ≡ None → AllSmall ns

@@ -24,42 +24,30 @@ fn each_letter(rt: HostRuntime) {
         leader: 3,
         fast: true,
     };
-    let job = Record {
+    let record = Record {
         book: 1,
         act: 2,
         x: 3,
         y: 40,
         z: 999_999,
     };
+    let (replica, job) = (1, 20);
     gives(&rt, b"W\t5\t3\t1\n", Step::Start(setting));
     gives(
         &rt,
         b"P\t1\t2\t3\t40\t999999\n",
-        Step::Call(Call::Propose(job)),
+        Step::Call(Call::Propose(record)),
     );
     gives(
         &rt,
         b"R\t1\t20\n",
-        Step::Call(Call::Receive {
-            replica: 1,
-            job: 20,
-        }),
+        Step::Call(Call::Receive { replica, job }),
     );
-    gives(
-        &rt,
-        b"H\t1\t20\n",
-        Step::Call(Call::Hear {
-            replica: 1,
-            job: 20,
-        }),
-    );
+    gives(&rt, b"H\t1\t20\n", Step::Call(Call::Hear { replica, job }));
     gives(
         &rt,
         b"N\t1\t20\n",
-        Step::Call(Call::Notice {
-            replica: 1,
-            job: 20,
-        }),
+        Step::Call(Call::Notice { replica, job }),
     );
     gives(&rt, b"Y\n", Step::Call(Call::Sync));
     gives(&rt, b"Q\t0\n", Step::Call(Call::Query { job: 0 }));
@@ -76,10 +64,7 @@ fn voters(rt: HostRuntime) {
             voters: two,
         }),
     );
-    let mut all = Voters::none();
-    for digit in 0..10u32 {
-        all = all.with(digit);
-    }
+    let all = (0..10).fold(Voters::none(), Voters::with);
     gives(
         &rt,
         b"L\t4\t0123456789\n",

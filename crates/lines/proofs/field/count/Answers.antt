@@ -1,17 +1,8 @@
-use Rattle.std.proofs.Common.{arith}
-use Rattle.std.proofs.lemmas.List.{at_drop_all}
-use Rattle.lines.specs.Forms.{tabs}
-use Rattle.lines.proofs.Turns.{tabs_stop, tabs_on}
+use Rattle.std.proofs.Common.{◌≡◌, ◌+◌, eqb, count_by, sym, ap, ◌∙◌, rules}
+use Rattle.lines.proofs.Parts.{tabs_counted}
 use Rattle.lines.proofs.field.count.Goals as goal
-use Rattle.lines.proofs.field.count.Goals.{then-b-eq9, else-b-eq9}
-
-pub loop-b-preserved : goal.loop-b-preserved
-loop-b-preserved c =
-    elim c.if-b-eq9.branch [
-      | then-b-eq9 w ↦ (omega (arith, w.n-is), omega (arith, w.n-is, c.loop-b.invariant.1, tabs_stop c.args.bytes.now c.loop-b.b-index c.loop-b-test.true w.if-b-eq9.true))
-      | else-b-eq9 w ↦ (omega (arith, w.n-is), omega (arith, w.n-is, c.loop-b.invariant.1, tabs_on c.args.bytes.now c.loop-b.b-index c.loop-b-test.true w.if-b-eq9.false))
-    ]
 
 pub returns : goal.returns
 returns c =
-    omega (arith, c.loop-b.invariant.1, at_drop_all tabs c.args.bytes.now c.loop-b.b-index c.loop-b-test.false)
+    let counted : c.count.result ≡ count_by (λ b. eqb b 9) c.args.bytes.now = search rules in
+    ap (λ n. 1 + n) (counted ∙ sym (tabs_counted c.args.bytes.now))

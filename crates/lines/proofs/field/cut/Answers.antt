@@ -1,20 +1,17 @@
-use Rattle.std.proofs.Common.{◌∙◌, arith, ltb-true}
-use Rattle.lines.proofs.Turns.{front_fits, cut_front, back_none, back_some}
+use Rattle.std.proofs.Common.{◌≡◌, eqb, position, sym, ◌∙◌, rules, tests}
+use Rattle.std.proofs.lemmas.Iterator.{YieldsList-from_slice}
+use Rattle.std.proofs.lemmas.Iterator.Search.{position_from_yields_List}
+use Rattle.lines.proofs.Parts.{cut_front, cut_back, all_front, no_back}
 use Rattle.lines.proofs.field.cut.Goals as goal
 
-pub split_at-requires : goal.split_at-requires
-split_at-requires c = omega (arith, c.run-n.ensures, front_fits c.args.bytes.now)
+pub returns-in-Some : goal.returns-in-Some
+returns-in-Some c =
+    let at : c.position.result ≡ position (λ b. eqb b 9) c.args.bytes.now = position_from_yields_List (λ b. eqb b 9) _ _ c.position.result c.position.ensures.ran (YieldsList-from_slice c.args.bytes.now cc) (λ x b q k. search (rules, tests)) in
+    let tab = sym at ∙ c.in-Some.is in
+    record { front = cut_front c.args.bytes.now c.in-Some.n tab; back = cut_back c.args.bytes.now c.in-Some.n tab }
 
-pub returns-in-empty : goal.returns-in-empty
-returns-in-empty c =
-    record {
-      front = c.split_at.ensures.front ∙ cut_front c.args.bytes.now c.run-n.result c.run-n.ensures;
-      back = back_none c.args.bytes.now c.run-n.result c.run-n.ensures _ c.split_at.ensures.back (omega (arith, ltb-true));
-    }
-
-pub returns-in-len1-up : goal.returns-in-len1-up
-returns-in-len1-up c =
-    record {
-      front = c.split_at.ensures.front ∙ cut_front c.args.bytes.now c.run-n.result c.run-n.ensures;
-      back = back_some c.args.bytes.now c.run-n.result c.run-n.ensures c.split_at.result.1.now c.split_at.ensures.back;
-    }
+pub returns-in-None : goal.returns-in-None
+returns-in-None c =
+    let at : c.position.result ≡ position (λ b. eqb b 9) c.args.bytes.now = position_from_yields_List (λ b. eqb b 9) _ _ c.position.result c.position.ensures.ran (YieldsList-from_slice c.args.bytes.now cc) (λ x b q k. search (rules, tests)) in
+    let none = sym at ∙ c.in-None.is in
+    record { front = all_front c.args.bytes.now none; back = no_back c.args.bytes.now none }

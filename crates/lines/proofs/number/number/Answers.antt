@@ -1,27 +1,44 @@
-use Rattle.std.proofs.Common.{sym, ◌∙◌}
-use Rattle.std.proofs.lemmas.List.{at_drop_all}
-use Rattle.lines.specs.Forms.{digits_after}
-use Rattle.lines.proofs.Turns.{digits_on, digits_stop, digits_past, number_led}
+use Rattle.std.proofs.Common.{◌≡◌, false, Some, Ok, is_ok, ap, sym, ◌∙◌, ⊎_elim, rules}
+use Rattle.std.specs.Bool.{then_some}
+use Rattle.std.specs.Str.Parse.{ParsesUnsigned}
+use Rattle.std.proofs.lemmas.Bool.{cond-false, cases_lt, le-leb, lt-leb}
+use Rattle.lines.specs.Forms.{led}
+use Rattle.lines.specs.Limits.{largest}
+use Rattle.lines.proofs.Parts.{number_led}
+use Rattle.lines.proofs.Parsed.{read_on, text_is_utf8, not_digits, number_small, number_past, parsed, not_parsed}
 use Rattle.lines.proofs.number.number.Goals as goal
+use Rattle.lines.proofs.number.number.Goals.{then-not-led-via-then-not-led, then-not-led-via-else-not-led+then-not-digits}
 
-pub returns-then-not-is_ascii_digit : goal.returns-then-not-is_ascii_digit
-returns-then-not-is_ascii_digit c =
-    let stop = digits_stop c.args.bytes.now c.loop-b.b-index c.loop-b-test.true c.loop-b.n (sym c.if-not-is_ascii_digit.ensures.value) in
-    sym (number_led c.args.bytes.now c.if-not-led.ensures ∙ (sym c.loop-b.invariant.1 ∙ stop))
+pub returns-then-not-led : goal.returns-then-not-led
+returns-then-not-led c =
+    let bs = c.args.bytes.now in
+    elim c.then-not-led.branch [
+      | then-not-led-via-then-not-led w ↦ sym (cond-false (led bs) _ _ (sym w.if-not-led.ensures))
+      | then-not-led-via-else-not-led+then-not-digits w ↦ sym (number_led bs w.if-not-led.ensures ∙ not_digits 0 bs (sym w.if-not-digits.ensures))
+    ]
 
-pub returns-then-n-gt-LARGEST : goal.returns-then-n-gt-LARGEST
-returns-then-n-gt-LARGEST c =
-    let past = digits_past c.args.bytes.now c.loop-b.b-index c.loop-b-test.true c.loop-b.n (sym c.if-not-is_ascii_digit.ensures.value)
-    (rw c.from.ensures at c.if-n-gt-LARGEST.true) in
-    sym (number_led c.args.bytes.now c.if-not-led.ensures ∙ (sym c.loop-b.invariant.1 ∙ past))
+pub returns-in_err-ok : goal.returns-in_err-ok
+returns-in_err-ok c =
+    let utf8 = text_is_utf8 c.args.bytes.now (sym c.if-not-digits.ensures) in
+    search (rules, utf8)
 
-pub loop-b-preserved : goal.loop-b-preserved
-loop-b-preserved c =
-    let on = digits_on c.args.bytes.now c.loop-b.b-index c.loop-b-test.true c.loop-b.n (sym c.if-not-is_ascii_digit.ensures.value)
-    (rw c.from.ensures at c.if-n-gt-LARGEST.false) in
-    (c.if-n-gt-LARGEST.false, rw c.from.ensures (sym on ∙ c.loop-b.invariant.1))
+pub returns-in_err-n : goal.returns-in_err-n
+returns-in_err-n c =
+    let bs = c.args.bytes.now in
+    let text : c.in_ok-ok.field-0.now ≡ bs = search rules in
+    let read : ParsesUnsigned 32 10 bs c.parse.result = rw text at c.parse.ensures.value.0 in
+    let failed : is_ok c.parse.result ≡ false = search rules in
+    c.from_residual-in_err-n.ensures ∙ sym (not_parsed bs c.if-not-led.ensures (sym c.if-not-digits.ensures) c.parse.result read failed)
 
 pub returns : goal.returns
 returns c =
-    let end = at_drop_all (digits_after c.loop-b.n) c.args.bytes.now c.loop-b.b-index c.loop-b-test.false in
-    sym (number_led c.args.bytes.now c.if-not-led.ensures ∙ (sym c.loop-b.invariant.1 ∙ end))
+    let bs = c.args.bytes.now in
+    let n = c.in_ok-n.n in
+    let text : c.in_ok-ok.field-0.now ≡ bs = search rules in
+    let read : ParsesUnsigned 32 10 bs c.parse.result = rw text at c.parse.ensures.value.0 in
+    let ok : c.parse.result ≡ Ok n = search rules in
+    let is : n ≡ read_on 0 bs = parsed bs c.if-not-led.ensures (sym c.if-not-digits.ensures) _ _ read ok in
+    c.then_some.ensures ∙ ⊎_elim
+    (λ a. ap (λ b. then_some b n) (lt-leb n largest a) ∙ sym (number_past bs c.if-not-led.ensures (sym c.if-not-digits.ensures) (rw is at a)))
+    (λ b. ap (λ b. then_some b n) (le-leb n largest b) ∙ (ap Some is ∙ sym (number_small bs c.if-not-led.ensures (sym c.if-not-digits.ensures) (rw is at b))))
+    (cases_lt largest n)

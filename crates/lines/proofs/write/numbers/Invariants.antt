@@ -1,10 +1,12 @@
-use Rattle.std.proofs.Common.{◌≡◌, ◌+◌, ◌*◌, ◌≤◌, ◌++◌, map, drop, decimal}
-use Rattle.lines.specs.Texts.{content}
+use Rattle.std.proofs.Common.{◌≡◌, ◌+◌, ◌*◌, ◌≤◌, ◌++◌, map, length, decimal}
+use Rattle.arrayvec.specs.ArrayString.{array_string_len}
 use Rattle.lines.specs.Writing.{first_large, tabbed}
 use Rattle.lines.proofs.write.numbers.Given as goal
 
-abbrev pub invariant-loop-i : goal.invariant-loop-i
-invariant-loop-i l =
-    (l.text.len ≤ 1 + 7 * l.i)
-    × (first_large (2 + l.i) (drop l.i l.values) ≡ first_large 2 l.values)
-    × (content l.text ++ tabbed (map decimal (drop l.i l.values)) ≡ content l.initial.text ++ tabbed (map decimal l.values))
+-- what is written and what the rest gives are all
+abbrev pub invariant-loop-place : goal.invariant-loop-place
+invariant-loop-place l =
+    (l.place-iterator.a.start + length l.place-iterator.b.rest.now ≡ 2 + length l.values)
+    × (array_string_len l.text + 7 * length l.place-iterator.b.rest.now ≤ 1 + 7 * length l.values)
+    × (first_large l.place-iterator.a.start l.place-iterator.b.rest.now ≡ first_large 2 l.values)
+    × (l.text.bytes ++ tabbed (map decimal l.place-iterator.b.rest.now) ≡ l.initial.text.bytes ++ tabbed (map decimal l.values))
