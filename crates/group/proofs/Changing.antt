@@ -1,5 +1,5 @@
 -- A change of leader: what the code does is what the protocol does.
-use Rattle.std.proofs.Common.{◌≡◌, ℕ, zero, suc, ◌+◌, ◌<◌, Bool, cond, ◌&&◌, eqb, ltb, [], ◌∷◌, length, set, Some, None, Ok, Err, Option, Result, sym, refl, ap, ◌∙◌, add-one, arith, length-append, length-set}
+use Rattle.std.proofs.Common.{◌≡◌, ℕ, zero, suc, ◌+◌, ◌<◌, Bool, cond, eqb, [], ◌∷◌, length, set, Some, None, Ok, Err, Option, Result, sym, refl, ap, ◌∙◌, add-one, arith, length-append, length-set}
 use Rattle.std.proofs.lemmas.Bool.Decides.{nat_tests}
 use Rattle.base.specs.declared.fault.Fault.{Fault}
 use Rattle.terms.specs.declared.voters.Voters.{Voters}
@@ -15,10 +15,6 @@ use Rattle.group.specs.declared.replica.Replica.{Replica}
 use Rattle.group.specs.Sets.{has, Has}
 use Rattle.group.specs.View.{Parts, seen, no_box, box_at}
 use Rattle.group.proofs.Places.{kept_at, read_set}
-
--- one job more looked at
-pub one_more : (f : ℕ → Bool) (k d : ℕ) (new old b : Bool) → new ≡ cond (eqb d k) b old → old ≡ ltb d k && f d → b ≡ f k → new ≡ ltb d (k + 1) && f d
-one_more f k d new old b e before here = grind (arith, nat_tests)
 
 pub settled_ok : (o : Option Fault) → ◌≡◌ {A = Result (Unit {0}) Fault} (Ok tt) (settled o tt) → o ≡ None
 settled_ok o h = grind arith

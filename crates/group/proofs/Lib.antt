@@ -10,5 +10,6 @@ pub mod Logged
 pub mod Receiving
 pub mod Syncing
 pub mod Changing
+pub mod Flags
 pub mod Making
-pub mod Asking
+pub mod Deciding

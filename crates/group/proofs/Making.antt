@@ -1,7 +1,6 @@
 -- A new group: what the code makes is what the protocol starts from.
-use Rattle.std.proofs.Common.{◌≡◌, ℕ, ◌+◌, ◌<◌, ◌≤◌, Bool, false, ◌⊎◌, List, [], ◌∷◌, ◌++◌, length, sym, refl, ap, ◌∙◌, subst, inl, inr, arith}
-use Rattle.std.proofs.lemmas.Bool.{cases_eq, cases_lt}
-use Rattle.std.proofs.lemmas.Bool.Decides.{nat_tests}
+use Rattle.std.proofs.Common.{◌≡◌, ℕ, ◌<◌, ◌≤◌, Bool, false, ◌⊎◌, List, [], length, refl, ap, ◌∙◌, inl, inr, arith}
+use Rattle.std.proofs.lemmas.Bool.{cases_lt}
 use Rattle.base.specs.Meaning.{Meaning}
 use Rattle.protocol.specs.declared.setting.Setting.{Setting}
 use Rattle.protocol.specs.State.{new_group}
@@ -9,18 +8,10 @@ use Rattle.protocol.proofs.Same.{same_state, same_jobs, same_boxes}
 use Rattle.group.specs.declared.replica.Replica.{Replica}
 use Rattle.group.specs.Sets.{has, Has}
 use Rattle.group.specs.View.{seen, no_box, box_at}
-use Rattle.group.proofs.Places.{read_append, read_none}
+use Rattle.group.proofs.Places.{read_none}
 
 abbrev pub EmptyBox : Replica → Type 0
 EmptyBox b = Has b (λ _. false) (λ _. false) (λ _. false) (λ _. false)
-
-pub one_box_more : (boxes : List Replica) (q : Replica) → EmptyBox q → ((r : ℕ) → r < length boxes → EmptyBox (box_at boxes r)) →
-    (r : ℕ) → r < length boxes + 1 → EmptyBox (box_at (boxes ++ q ∷ []) r)
-one_box_more boxes q here before r h = go (cases_eq r (length boxes))
-  where
-    go : (r ≡ length boxes) ⊎ (r ≡ length boxes → ⊥) → EmptyBox (box_at (boxes ++ q ∷ []) r)
-    go (inl same) = let e : box_at (boxes ++ q ∷ []) r ≡ q = let a = read_append boxes q no_box r in grind (arith, nat_tests) in subst EmptyBox (sym e) here
-    go (inr other) = let e : box_at (boxes ++ q ∷ []) r ≡ box_at boxes r = let a = read_append boxes q no_box r in grind (arith, nat_tests) in subst EmptyBox (sym e) (before r (omega arith))
 
 module _ (boxes : List Replica) (each : (r : ℕ) → r < length boxes → EmptyBox (box_at boxes r)) where
   -- nothing is in a box, nor in one that there is not

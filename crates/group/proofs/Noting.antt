@@ -1,13 +1,13 @@
 -- Messages to one box: what the code does to it is what the protocol does.
-use Rattle.std.proofs.Common.{◌≡◌, ℕ, ◌<◌, Bool, true, false, List, length, set, Some, None, sym, refl, ap, ◌∙◌, arith, length-set, get_or-set_same}
+use Rattle.std.proofs.Common.{◌≡◌, ℕ, ◌<◌, Bool, true, false, List, length, set, Some, None, refl, ap, arith, length-set}
 use Rattle.std.proofs.lemmas.Bool.Decides.{nat_tests}
 use Rattle.base.specs.declared.fault.Refusal.TheVariants.{NotInTransit}
 use Rattle.base.specs.declared.fault.Layer.TheVariants.{Group}
 use Rattle.base.specs.Faults.{plain}
-use Rattle.terms.specs.Tests.{put, tally}
+use Rattle.terms.specs.Tests.{put}
 use Rattle.protocol.specs.State.{State}
 use Rattle.protocol.specs.Refusals.{message_refusal}
-use Rattle.protocol.specs.Steps.{note, dropped, pool_size}
+use Rattle.protocol.specs.Steps.{note, dropped}
 use Rattle.protocol.proofs.Same.{same_state, same_boxes}
 use Rattle.group.specs.declared.replica.Replica.{Replica}
 use Rattle.group.specs.Sets.{has, Has}
@@ -55,8 +55,3 @@ module _ {S : Type 0} (g : Parts S) where
         pool = kept_at g.boxes r q no_box h (λ b. has b.pool) new.pool;
         answer = λ x y. refl;
       }))
-
-  -- the size of the pool that was written
-  pub pool_written : (r : ℕ) (q : Replica) → r < length g.boxes → (s : State S) → after (set g.boxes r q) ≡ s → tally (length g.jobs) (has q.pool) ≡ pool_size s r
-  pool_written r q h s e =
-      ap (λ (b : Replica). tally (length g.jobs) (has b.pool)) (sym (get_or-set_same g.boxes r q no_box h)) ∙ ap (λ t. pool_size t r) e

@@ -1,5 +1,5 @@
 -- Lists of different jobs below 256.
-use Rattle.std.proofs.Common.{◌≡◌, ℕ, zero, suc, ◌+◌, ◌<◌, ◌≤◌, Bool, true, false, cond, List, [], ◌∷◌, ◌++◌, length, refl, add-one, arith}
+use Rattle.std.proofs.Common.{◌≡◌, ℕ, zero, suc, ◌<◌, ◌≤◌, Bool, true, false, cond, List, [], ◌∷◌, ◌++◌, length, refl, arith}
 use Rattle.std.proofs.lemmas.Bool.Decides.{nat_tests}
 use Rattle.terms.specs.Tests.{mem, distinct, all_below, ascending}
 use Rattle.terms.proofs.Lists.{distinct_join}
@@ -34,6 +34,3 @@ module _ (xs : List ℕ) (c : ℕ) (once : distinct xs ≡ true) (below : all_be
 
   pub joined_below : all_below 256 (xs ++ c ∷ []) ≡ true
   joined_below = below_append 256 xs (c ∷ []) below (grind (arith, nat_tests))
-
-pub ascending_more : (n : ℕ) (p : ℕ → Bool) → ascending (n + 1) p ≡ ascending n p ++ cond (p n) (n ∷ []) []
-ascending_more n p = simp add-one

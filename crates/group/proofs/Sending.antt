@@ -36,6 +36,10 @@ module _ (P : Replica → Replica → Type 0) (old : List Replica) where
   pub all_sent : (new : List Replica) (i : ℕ) → Sent P old new i → length old ≤ i → AllBecame P old new
   all_sent new i sent h = record { each = λ r l. sent.below r (omega arith); many = sent.many }
 
+-- what is known of each call, said of all of them
+pub all_as : {P Q : Replica → Replica → Type 0} {old new : List Replica} → ((p q : Replica) → P p q → Q p q) → AllBecame P old new → AllBecame Q old new
+all_as weaker sent = record { each = λ r h. weaker _ _ (sent.each r h); many = sent.many }
+
 -- what the boxes hold after it
 module _ (old new : List Replica) (many : length new ≡ length old) (f : Replica → ℕ → Bool) where
   beyond : (r : ℕ) → length old ≤ r → (c : ℕ) → f (box_at new r) c ≡ f (box_at old r) c

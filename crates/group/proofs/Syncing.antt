@@ -1,5 +1,5 @@
 -- The head of the waiting list goes to the log: what the code does is what the protocol does.
-use Rattle.std.proofs.Common.{◌≡◌, ℕ, ◌<◌, true, false, cond, eqb, List, [], ◌∷◌, ◌++◌, length, set, Some, None, Ok, Err, Result, refl, ap, ◌∙◌, arith, length-set}
+use Rattle.std.proofs.Common.{◌≡◌, ℕ, ◌<◌, true, false, cond, eqb, List, [], ◌∷◌, ◌++◌, length, set, Some, None, Ok, Result, refl, ap, ◌∙◌, arith, length-set}
 use Rattle.std.proofs.lemmas.Bool.Decides.{nat_tests}
 use Rattle.base.specs.declared.fault.Fault.{Fault}
 use Rattle.base.specs.Faults.{log_full}
@@ -22,14 +22,6 @@ pub head_first : (xs : List ℕ) (c : ℕ) → first_of xs ≡ Some c → xs ≡
 head_first [] c h = absurd (grind arith)
 head_first (x ∷ xs) c h = grind arith
 
-pub none_wait : (xs : List ℕ) → first_of xs ≡ None → xs ≡ []
-none_wait [] h = refl
-none_wait (x ∷ xs) h = absurd (grind arith)
-
-pub rest_below : (n : ℕ) (xs : List ℕ) → all_below n xs ≡ true → all_below n (rest_of xs) ≡ true
-rest_below n [] h = refl
-rest_below n (x ∷ xs) h = grind arith
-
 pub head_below : (n : ℕ) (xs : List ℕ) (c : ℕ) → first_of xs ≡ Some c → all_below n xs ≡ true → c < n
 head_below n [] c e h = absurd (grind arith)
 head_below n (x ∷ xs) c e h = grind (arith, nat_tests)
@@ -39,19 +31,12 @@ pub log_took : (limit : ℕ) (xs : List ℕ) (n : ℕ) → ◌≡◌ {A = Result
     (eqb (length xs) limit ≡ false) × (added limit xs n ≡ xs ++ n ∷ [])
 log_took limit xs n h = (grind arith, grind arith)
 
-pub log_refused : (limit : ℕ) (xs : List ℕ) (n : ℕ) (f : Fault) → ◌≡◌ {A = Result (Unit {0}) Fault} (Err f) (added_outcome limit xs) →
-    (eqb (length xs) limit ≡ true) × (added limit xs n ≡ xs) × (f ≡ log_full)
-log_refused limit xs n f h = (grind arith, grind arith, grind arith)
-
 module _ {S : Type 0} (m : Meaning S) (g : Parts S) where
   abbrev before : State S
   before = seen g
 
   pub may_sync : (c : ℕ) (rest : List ℕ) → g.waiting ≡ c ∷ rest → eqb (length g.log) g.capacity ≡ false → sync_refusal g.waiting before ≡ None
   may_sync c rest line room = ap (λ xs. sync_refusal xs before) line ∙ ap (λ b. cond b (Some log_full) None) room
-
-  pub no_room : (c : ℕ) (rest : List ℕ) → g.waiting ≡ c ∷ rest → eqb (length g.log) g.capacity ≡ true → sync_refusal g.waiting before ≡ Some log_full
-  no_room c rest line full = ap (λ xs. sync_refusal xs before) line ∙ ap (λ b. cond b (Some log_full) None) full
 
   pub sync_moves : (c : ℕ) (rest : List ℕ) (q : Job) (told_boxes : List Replica) → c < length g.jobs →
       Holds q (job_at g.jobs c).«record» (answer_of (job_at g.jobs c)) (job_at g.jobs c).phase (Some (told_result m before c)) →

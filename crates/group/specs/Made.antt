@@ -5,6 +5,8 @@ use Rattle.base.specs.Meaning.{Meaning}
 use Rattle.protocol.specs.declared.setting.Setting.{Setting}
 use Rattle.protocol.specs.Settings.{setting_refusal}
 use Rattle.protocol.specs.State.{new_group}
+use Rattle.books.specs.declared.book.Book.{Ghosts as BookOf}
+use Rattle.logs.specs.declared.log.Log.{Ghosts as LogOf}
 use Rattle.group.specs.declared.group.Group.{Group}
 use Rattle.group.specs.declared.replica.Replica.{Replica}
 use Rattle.group.specs.declared.unmade.Unmade.{Unmade}
@@ -22,3 +24,7 @@ abbrev pub Made : {B L S : Type 0} → Meaning S → (B → S) → (L → List �
 Made m state entries limit k (Ok g) = (setting_refusal k ≡ None) × (view state entries limit g ≡ new_group m limit k)
 Made m state entries limit k (Err (Refused f)) = setting_refusal k ≡ Some f
 Made m state entries limit k (Err NoMemory) = setting_refusal k ≡ None
+
+-- the same, of the book and the log that the bounds name
+abbrev pub MadeBy : {B L : Type 0} (b : BookOf B) (l : LogOf L) → Setting → Result (Group B L) Unmade → Type 0
+MadeBy b l k r = Made b.meaning b.state l.entries l.limit k r

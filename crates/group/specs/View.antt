@@ -1,7 +1,10 @@
 -- A group read as a state of the protocol.
 use Rattle.std.specs.Prelude.{◌≡◌, ℕ, ◌<◌, Bool, List, [], length, None, vec_items, slice_index_or}
+use Rattle.std.specs.Borrow.{MutBor}
 use Rattle.terms.specs.declared.answers.Phase.TheVariants.{Waiting}
 use Rattle.protocol.specs.State.{State, Jobs, Boxes, blank}
+use Rattle.books.specs.declared.book.Book.{Ghosts as BookOf}
+use Rattle.logs.specs.declared.log.Log.{Ghosts as LogOf}
 use Rattle.group.specs.declared.job_set.JobSet.{JobSet}
 use Rattle.group.specs.declared.replica.Replica.{Replica}
 use Rattle.group.specs.declared.job.Job.{Job}
@@ -69,7 +72,7 @@ parts state entries capacity g = record {
   capacity = capacity;
   leader = g.leader;
   epoch = g.epoch;
-  waiting = vec_items g.waiting.jobs;
+  waiting = g.waiting.jobs.items;
   log = entries g.log;
   book = state g.book;
   jobs = vec_items g.jobs;
@@ -79,10 +82,25 @@ parts state entries capacity g = record {
 abbrev pub view : {B L S : Type 0} → (B → S) → (L → List ℕ) → ℕ → Group B L → State S
 view state entries capacity g = seen (parts state entries capacity g)
 
+-- the same, of the book and the log that the bounds name
+abbrev pub parts_of : {B L : Type 0} (b : BookOf B) (l : LogOf L) → Group B L → Parts b.State
+parts_of b l g = parts b.state l.entries l.limit g
+
+abbrev pub state_of : {B L : Type 0} (b : BookOf B) (l : LogOf L) → Group B L → State b.State
+state_of b l g = view b.state l.entries l.limit g
+
 -- each box became what P says, and none came or went
 pub record AllBecame (P : Replica → Replica → Type 0) (old new : List Replica) : Type 0 where
   pub each : (r : ℕ) → r < length old → P (box_at old r) (box_at new r)
   pub many : length new ≡ length old
+
+-- a call that `post` allows may find a box as p and leave it as q
+pub record Leaves (post : MutBor Replica → Unit {0} → MutBor Replica → Type 0) (p q : Replica) : Type 0 where
+  pub found : MutBor Replica
+  pub finds : found.now ≡ p
+  pub left : MutBor Replica
+  pub called : post found tt left
+  pub leaves : left.now ≡ q
 
 -- a box and a job that there are
 pub record Named {B L : Type 0} (replica job : ℕ) (g : Group B L) : Type 0 where

@@ -13,6 +13,7 @@ use terms::{Answer, Phase, Reply};
 #[derive(Clone, Copy)]
 pub(crate) struct Job {
     pub record: Record,
+    // Fixed memory for nine boxes; the group's size says how many are there.
     pub answers: [Answer; 9],
     pub phase: Phase,
     pub given: Option<u32>,
@@ -31,57 +32,30 @@ impl Job {
     }
 
     // The box's reply, where it is on its way to the client.
-    pub(crate) fn in_transit(self, replica: usize) -> Option<Reply>
-        requires { replica < 9 }
-        ensures { result ≡ transit_of (answer_of self replica) }
+    pub(crate) fn in_transit(&self, replica: usize) -> Option<Reply>
+        ensures { result ≡ transit_of (answer_of self.now replica) }
     {
-        match self.answers[replica] {
-            Answer::Transit(reply) => Some(reply),
+        match self.answers.get(replica) {
+            Some(Answer::Transit(reply)) => Some(*reply),
             _ => None,
         }
     }
 
     // The box's reply is on its way to the client.
-    pub(crate) fn answered(self, replica: usize, reply: Reply) -> Job
+    pub(crate) fn answer(&mut self, replica: usize, reply: Reply)
         requires { replica < 9 }
-        ensures { Holds result self.«record» (put (answer_of self) replica (Transit reply)) self.phase self.given }
+        ensures { Holds self.new self.old.«record» (put (answer_of self.old) replica (Transit reply)) self.old.phase self.old.given }
     {
-        let mut answers = self.answers;
-        answers[replica] = Answer::Transit(reply);
-        Job {
-            record: self.record,
-            answers,
-            phase: self.phase,
-            given: self.given,
-        }
+        self.answers[replica] = Answer::Transit(reply);
     }
 
     // The client has heard the reply, and decides.
-    pub(crate) fn heard(self, replica: usize, reply: Reply, size: usize) -> Job
-        requires within { replica < 9 }
+    pub(crate) fn hear(&mut self, replica: usize, reply: Reply, size: usize)
+        requires within { replica < size }
         requires few { size ≤ 9 }
-        ensures { Holds result self.«record» (put (answer_of self) replica (Heard reply)) (decide size (answer_of result) self.phase) self.given }
+        ensures { Holds self.new self.old.«record» (put (answer_of self.old) replica (Heard reply)) (decide size (answer_of self.new) self.old.phase) self.old.given }
     {
-        let mut answers = self.answers;
-        answers[replica] = Answer::Heard(reply);
-        Job {
-            record: self.record,
-            answers,
-            phase: decision(answers, size, self.phase),
-            given: self.given,
-        }
-    }
-
-    // The log gave the result.
-    pub(crate) fn logged(self, res: u32) -> Job
-        ensures { Holds result self.«record» (answer_of self) self.phase (Some res) }
-    {
-        let answers = self.answers;
-        Job {
-            record: self.record,
-            answers,
-            phase: self.phase,
-            given: Some(res),
-        }
+        self.answers[replica] = Answer::Heard(reply);
+        self.phase = decision(&self.answers[..size], self.phase);
     }
 }

@@ -1,8 +1,11 @@
-ghost use Rattle.std.specs.Prelude.{◌≡◌, ℕ, ◌<◌, ◌≤◌, Bool, false};
+ghost use Rattle.std.specs.Prelude.{◌≡◌, ℕ, ◌≤◌, ◌<◌, true, false};
 ghost use Rattle.group.specs.Sets.{has};
 ghost use Rattle.terms.specs.Tests.{put, tally};
 
-// A set of jobs, by their numbers below 256.
+use std::array;
+
+// A set of jobs, by their numbers.
+// No generic set of flags with `Voters`: that one is built by value from any digits of a line, this one changes in place by a `u8`.
 #[derive(Clone, Copy)]
 pub(crate) struct JobSet {
     members: [bool; 256],
@@ -17,33 +20,39 @@ impl JobSet {
         }
     }
 
+    // The jobs that pass the test.
+    pub(crate) fn of<F: Fn(usize) -> bool>(test: F) -> JobSet
+        requires { F.IsAlwaysCallable test }
+        ensures { (c : ℕ) → c < 256 → F.post test c (has result c) }
+    {
+        JobSet {
+            members: array::from_fn(test),
+        }
+    }
+
     pub(crate) fn has(&self, job: usize) -> bool
         ensures { result ≡ has self.now job }
     {
-        if job < 256 { self.members[job] } else { false }
+        self.members.get(job).copied().unwrap_or(false)
     }
 
-    // The set with the job in it, or without.
-    pub(crate) fn put(self, job: usize, member: bool) -> JobSet
-        requires { job < 256 }
-        ensures { (c : ℕ) → has result c ≡ put (has self) job member c }
+    pub(crate) fn insert(&mut self, job: u8)
+        ensures { (c : ℕ) → has self.new c ≡ put (has self.old) job true c }
     {
-        let mut members = self.members;
-        members[job] = member;
-        JobSet { members }
+        self.members[job as usize] = true;
+    }
+
+    pub(crate) fn remove(&mut self, job: u8)
+        ensures { (c : ℕ) → has self.new c ≡ put (has self.old) job false c }
+    {
+        self.members[job as usize] = false;
     }
 
     // How many of the jobs below `count` are in it.
-    pub(crate) fn size(&self, count: usize) -> u32
-        requires { count ≤ 256 }
-        ensures { result ≡ tally count (has self.now) }
+    pub(crate) fn size(&self, count: usize) -> usize
+        ensures members { result ≡ tally count (has self.now) }
+        ensures bound { result ≤ count }
     {
-        let mut n = 0;
-        for c in 0..count {
-            if self.has(c) {
-                n += 1;
-            }
-        }
-        n
+        (0..count).filter(|job| self.has(*job)).count()
     }
 }

@@ -1,27 +1,20 @@
-ghost use Rattle.std.specs.Prelude.{◌<◌, length};
-ghost use Rattle.group.specs.Sets.{Requested, Notified};
-ghost use Rattle.group.specs.View.{AllBecame};
+ghost use Rattle.group.specs.View.{AllBecame, Leaves};
 
 use crate::replica::Replica;
 
-// A request for the job goes to every box.
-pub(crate) fn request_all(boxes: &mut [Replica], job: usize)
-    requires { job < 256 }
-    ensures { AllBecame (Requested job) boxes.old boxes.new }
-{
-    for r in 0..boxes.len() {
-        let at = boxes[r];
-        boxes[r] = at.requested(job);
-    }
+// A message to or from a box of the group, about a job that was proposed.
+#[derive(Clone, Copy)]
+pub(crate) struct Message {
+    pub replica: usize,
+    pub job: u8,
 }
 
-// A notice of the job goes to every box.
-pub(crate) fn notify_all(boxes: &mut [Replica], job: usize)
-    requires { job < 256 }
-    ensures { AllBecame (Notified job) boxes.old boxes.new }
+// The same goes to every box.
+pub(crate) fn send_all<F: Fn(&mut Replica)>(boxes: &mut [Replica], send: F)
+    requires { F.IsAlwaysCallable send }
+    ensures { AllBecame (Leaves (F.post send)) boxes.old boxes.new }
 {
-    for r in 0..boxes.len() {
-        let at = boxes[r];
-        boxes[r] = at.notified(job);
+    for at in boxes.iter_mut() {
+        send(at);
     }
 }

@@ -1,4 +1,4 @@
-ghost use Rattle.std.specs.Prelude.{◌<◌, true, false, ◌||◌};
+ghost use Rattle.std.specs.Prelude.{true, false, ◌||◌};
 ghost use Rattle.terms.specs.Tests.{put};
 ghost use Rattle.group.specs.Sets.{has, Has, Requested, Notified};
 
@@ -13,7 +13,6 @@ pub(crate) struct Replica {
     pub pool: JobSet,
 }
 
-// Each gives the box as it is after one message.
 impl Replica {
     pub(crate) fn empty() -> Replica
         ensures { Has result (λ _. false) (λ _. false) (λ _. false) (λ _. false) }
@@ -28,78 +27,43 @@ impl Replica {
     }
 
     // A request for the job is on its way.
-    pub(crate) fn requested(self, job: usize) -> Replica
-        requires { job < 256 }
-        ensures { Requested job self result }
+    pub(crate) fn send_request(&mut self, job: u8)
+        ensures { Requested job self.old self.new }
     {
-        Replica {
-            requests: self.requests.put(job, true),
-            notices: self.notices,
-            taken: self.taken,
-            pool: self.pool,
-        }
-    }
-
-    // The request was taken, and nothing else.
-    pub(crate) fn dropped(self, job: usize) -> Replica
-        requires { job < 256 }
-        ensures { Has result (put (has self.requests) job false) (has self.notices) (has self.taken) (has self.pool) }
-    {
-        Replica {
-            requests: self.requests.put(job, false),
-            notices: self.notices,
-            taken: self.taken,
-            pool: self.pool,
-        }
-    }
-
-    // The request was taken; the job joined the pool or not.
-    pub(crate) fn answered(self, job: usize, joins: bool) -> Replica
-        requires { job < 256 }
-        ensures { Has result (put (has self.requests) job false) (has self.notices) (has self.taken) (put (has self.pool) job (joins || has self.pool job)) }
-    {
-        Replica {
-            requests: self.requests.put(job, false),
-            notices: self.notices,
-            taken: self.taken,
-            pool: self.pool.put(job, joins || self.pool.has(job)),
-        }
+        self.requests.insert(job);
     }
 
     // A notice of the job is on its way.
-    pub(crate) fn notified(self, job: usize) -> Replica
-        requires { job < 256 }
-        ensures { Notified job self result }
+    pub(crate) fn send_notice(&mut self, job: u8)
+        ensures { Notified job self.old self.new }
     {
-        Replica {
-            requests: self.requests,
-            notices: self.notices.put(job, true),
-            taken: self.taken,
-            pool: self.pool,
+        self.notices.insert(job);
+    }
+
+    // The request was taken, and nothing else.
+    pub(crate) fn drop_request(&mut self, job: u8)
+        ensures { Has self.new (put (has self.old.requests) job false) (has self.old.notices) (has self.old.taken) (has self.old.pool) }
+    {
+        self.requests.remove(job);
+    }
+
+    // The request was taken; the job joined the pool or not. An `if` at the caller gets no proof: where its branches
+    // join, the group has no name that a proof may cite.
+    pub(crate) fn take_request(&mut self, job: u8, joins: bool)
+        ensures { Has self.new (put (has self.old.requests) job false) (has self.old.notices) (has self.old.taken) (put (has self.old.pool) job (joins || has self.old.pool job)) }
+    {
+        self.requests.remove(job);
+        if joins {
+            self.pool.insert(job);
         }
     }
 
     // The notice was taken, and the job left the pool.
-    pub(crate) fn noted(self, job: usize) -> Replica
-        requires { job < 256 }
-        ensures { Has result (has self.requests) (put (has self.notices) job false) (put (has self.taken) job true) (put (has self.pool) job false) }
+    pub(crate) fn take_notice(&mut self, job: u8)
+        ensures { Has self.new (has self.old.requests) (put (has self.old.notices) job false) (put (has self.old.taken) job true) (put (has self.old.pool) job false) }
     {
-        Replica {
-            requests: self.requests,
-            notices: self.notices.put(job, false),
-            taken: self.taken.put(job, true),
-            pool: self.pool.put(job, false),
-        }
-    }
-
-    pub(crate) fn with_pool(self, pool: JobSet) -> Replica
-        ensures { Has result (has self.requests) (has self.notices) (has self.taken) (has pool) }
-    {
-        Replica {
-            requests: self.requests,
-            notices: self.notices,
-            taken: self.taken,
-            pool,
-        }
+        self.notices.remove(job);
+        self.taken.insert(job);
+        self.pool.remove(job);
     }
 }

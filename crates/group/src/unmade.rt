@@ -5,6 +5,7 @@ use base::Fault;
 use std::alloc::AllocError;
 
 // Why no group was made: its setting was refused, or there was no memory for it.
+// `From` is written out for `from_gives`, by which contracts name what a `?` makes. No program prints it.
 #[derive(Clone, Copy, Debug)]
 pub enum Unmade {
     Refused(Fault),

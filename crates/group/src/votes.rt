@@ -7,25 +7,14 @@ ghost use Rattle.group.specs.View.{box_at};
 use crate::replica::Replica;
 use terms::Voters;
 
-// The box votes, and its pool holds the job.
-fn votes_for(voters: Voters, r: usize, at: Replica, job: usize) -> bool
-    requires { r ≤ 9 }
-    ensures { result ≡ (votes voters r && has at.pool job) }
-{
-    voters.has(r as u32) && at.pool.has(job)
-}
-
-// How many of the voters' pools hold the job.
-pub(crate) fn holders(boxes: &[Replica], voters: Voters, job: usize) -> u32
+// How many of the voters' pools hold the job. The boxes' numbers are below 9.
+pub(crate) fn holders(boxes: &[Replica], voters: Voters, job: usize) -> usize
     requires { length boxes.now ≤ 9 }
     ensures { result ≡ tally (length boxes.now) (λ r. votes voters r && has (box_at boxes.now r).pool job) }
 {
-    let mut n = 0;
-    for r in 0..boxes.len() {
-        let at = boxes[r];
-        if votes_for(voters, r, at, job) {
-            n += 1;
-        }
-    }
-    n
+    boxes
+        .iter()
+        .zip(0..9)
+        .filter(|(at, r)| voters.has(*r) && at.pool.has(job))
+        .count()
 }

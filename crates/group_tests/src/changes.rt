@@ -8,33 +8,26 @@ use protocol::*;
 use std::test::*;
 use terms::{Call, Phase, Received};
 
-fn confirmed(res: u32, epoch: u32) -> Phase {
-    Phase::Fast { result: res, epoch }
+fn confirmed(told: u32, epoch: u32) -> Phase {
+    Phase::Fast {
+        result: told,
+        epoch,
+    }
 }
 
 // Five answers of yes, three of one epoch and two of the next, confirm nothing.
 #[test]
 fn mid_answer(rt: HostRuntime) -> Result<(), Fail> {
     let mut group = shipped(&rt, 5, 0, true)?;
+    plays(&rt, &mut group, &[proposes(booking(3, 8, 10), 0)])?;
+    plays_each(&rt, &mut group, 0..3, |r| receives(r, 0, Received::Yes))?;
+    plays(&rt, &mut group, &[changes(1, &[0, 1, 2], 2, 1)])?;
+    plays_each(&rt, &mut group, 3..5, |r| receives(r, 0, Received::Yes))?;
+    plays_each(&rt, &mut group, 0..5, |r| hears(r, 0, Phase::Waiting))?;
     plays(
         &rt,
         &mut group,
-        &[
-            proposes(booking(3, 8, 10), 0),
-            receives(0, 0, Received::Yes),
-            receives(1, 0, Received::Yes),
-            receives(2, 0, Received::Yes),
-            changes(1, &[0, 1, 2], 2, 1),
-            receives(3, 0, Received::Yes),
-            receives(4, 0, Received::Yes),
-            hears(0, 0, Phase::Waiting),
-            hears(1, 0, Phase::Waiting),
-            hears(2, 0, Phase::Waiting),
-            hears(3, 0, Phase::Waiting),
-            hears(4, 0, Phase::Waiting),
-            syncs(0, 1),
-            queries(0, Phase::Waiting, Some(1), Some(1)),
-        ],
+        &[syncs(0, 1), queries(0, Phase::Waiting, Some(1), Some(1))],
     )
 }
 
@@ -49,36 +42,25 @@ fn told_twice(rt: HostRuntime) -> Result<(), Fail> {
             proposes(booking(3, 8, 10), 0),
             receives(0, 0, Received::Yes),
             changes(1, &[1, 2, 3], 2, 0),
-            refuses(Call::Sync, 8),
-            receives(1, 0, Received::Yes),
-            receives(2, 0, Received::Yes),
-            receives(3, 0, Received::Yes),
-            receives(4, 0, Received::Yes),
-            hears(0, 0, Phase::Waiting),
-            hears(1, 0, Phase::Waiting),
-            hears(2, 0, Phase::Waiting),
-            hears(3, 0, Phase::Waiting),
-            hears(4, 0, confirmed(1, 2)),
+            refuses(Call::Sync, Refusal::NothingWaits),
         ],
-    )
+    )?;
+    plays_each(&rt, &mut group, 1..5, |r| receives(r, 0, Received::Yes))?;
+    plays_each(&rt, &mut group, 0..4, |r| hears(r, 0, Phase::Waiting))?;
+    plays(&rt, &mut group, &[hears(4, 0, confirmed(1, 2))])
 }
 
 // A confirmed job is kept by a change, ahead of what clashes with it, and gives the told result. A job in one pool is lost.
 #[test]
 fn confirmed_survives(rt: HostRuntime) -> Result<(), Fail> {
     let mut group = shipped(&rt, 5, 0, true)?;
+    plays(&rt, &mut group, &[proposes(booking(3, 8, 10), 0)])?;
+    plays_each(&rt, &mut group, 0..4, |r| receives(r, 0, Received::Yes))?;
+    plays_each(&rt, &mut group, 0..3, |r| hears(r, 0, Phase::Waiting))?;
     plays(
         &rt,
         &mut group,
         &[
-            proposes(booking(3, 8, 10), 0),
-            receives(0, 0, Received::Yes),
-            receives(1, 0, Received::Yes),
-            receives(2, 0, Received::Yes),
-            receives(3, 0, Received::Yes),
-            hears(0, 0, Phase::Waiting),
-            hears(1, 0, Phase::Waiting),
-            hears(2, 0, Phase::Waiting),
             hears(3, 0, confirmed(1, 1)),
             proposes(booking(4, 8, 10), 1),
             receives(0, 1, Received::Yes),
@@ -87,7 +69,7 @@ fn confirmed_survives(rt: HostRuntime) -> Result<(), Fail> {
             receives(4, 2, Received::No),
             syncs(0, 1),
             syncs(2, 0),
-            refuses(Call::Sync, 8),
+            refuses(Call::Sync, Refusal::NothingWaits),
             queries(0, confirmed(1, 1), Some(1), Some(1)),
             queries(1, Phase::Waiting, None, None),
             queries(2, Phase::Waiting, Some(2), Some(0)),
@@ -109,7 +91,7 @@ fn waits_once(rt: HostRuntime) -> Result<(), Fail> {
             changes(1, &[0, 2], 2, 1),
             receives(1, 0, Received::No),
             syncs(0, 0),
-            refuses(Call::Sync, 8),
+            refuses(Call::Sync, Refusal::NothingWaits),
         ],
     )
 }
@@ -135,7 +117,7 @@ fn recovered_in_order(rt: HostRuntime) -> Result<(), Fail> {
             changes(0, &[0, 1], 2, 2),
             syncs(0, 0),
             syncs(1, 0),
-            refuses(Call::Sync, 8),
+            refuses(Call::Sync, Refusal::NothingWaits),
         ],
     )
 }
@@ -177,12 +159,12 @@ fn dropped(rt: HostRuntime) -> Result<(), Fail> {
             syncs(0, 0),
             notices(1, 0, 0),
             receives(1, 0, Received::Dropped),
-            refuses(Call::Receive { replica: 1, job: 0 }, 7),
-            refuses(Call::Hear { replica: 1, job: 0 }, 7),
+            refuses(Call::Receive { replica: 1, job: 0 }, Refusal::NotInTransit),
+            refuses(Call::Hear { replica: 1, job: 0 }, Refusal::NotInTransit),
             receives(3, 0, Received::Yes),
             changes(2, &[0, 1, 3], 2, 0),
             receives(2, 0, Received::Dropped),
-            refuses(Call::Sync, 8),
+            refuses(Call::Sync, Refusal::NothingWaits),
             queries(0, Phase::Waiting, Some(1), Some(0)),
         ],
     )

@@ -9,6 +9,7 @@ use protocol::*;
 use std::process::Abort;
 use std::test::*;
 use terms::{Call, Changed, Phase, Received};
+use week::{Outcome, perform};
 
 // Epoch 9,999 is the last, with a job that every change recovers.
 #[test]
@@ -23,12 +24,16 @@ fn epochs(rt: HostRuntime) -> Result<(), Fail> {
         leader: 0,
         voters: voters(&[0]),
     };
+    let nobody = Call::Change {
+        leader: 0,
+        voters: voters(&[]),
+    };
     for epoch in 2..10_000 {
         let changed = Changed {
             epoch,
             recovered: 1,
         };
-        assert_eq!(rt; call_on(&mut group, again), Outcome::Changed(changed));
+        assert_eq!(rt; perform(&mut group, again), Ok(Outcome::Changed(changed)));
     }
     let confirmed = Phase::Fast {
         result: 0,
@@ -38,14 +43,8 @@ fn epochs(rt: HostRuntime) -> Result<(), Fail> {
         &rt,
         &mut group,
         &[
-            refuses(again, 10),
-            refuses(
-                Call::Change {
-                    leader: 0,
-                    voters: voters(&[]),
-                },
-                9,
-            ),
+            refuses(again, Refusal::LastEpoch),
+            refuses(nobody, Refusal::WrongVoters),
             proposes(write(8, 5), 1),
             receives(0, 1, Received::Yes),
             hears(0, 1, confirmed),
@@ -57,20 +56,15 @@ fn epochs(rt: HostRuntime) -> Result<(), Fail> {
 
 // As many jobs as the log can hold, all on one slot: the next is refused, and the log takes in every one.
 fn holds<L: Log + Drop>(rt: &(impl Abort + AllocGlobal), limit: u32) -> Result<(), Fail> {
-    let setting = Setting {
-        size: 1,
-        leader: 0,
-        fast: false,
-    };
-    let mut group = Group::<Cards, L>::new(rt.alloc(), setting)?;
+    let mut group = made::<Cards, L>(rt, 1, 0, false)?;
     for job in 0..limit {
         plays(rt, &mut group, &[proposes(write(7, job), job)])?;
     }
     let full = [
-        (Call::Propose(write(256, 0)), Outcome::Misfit(4)),
-        refuses(Call::Propose(write(7, 0)), 4),
-        refuses(Call::Sync, 8),
-        refuses(Call::Query { job: limit }, 6),
+        misfits(write(256, 0), 4),
+        refuses(Call::Propose(write(7, 0)), Refusal::Full),
+        refuses(Call::Sync, Refusal::NothingWaits),
+        refuses(Call::Query { job: limit }, Refusal::NoJob),
     ];
     plays(rt, &mut group, &full)?;
     for job in 0..limit {

@@ -1,5 +1,5 @@
 ghost use Rattle.std.specs.Prelude.{[]};
-ghost use Rattle.std.proofs.Common.{rules};
+ghost use Rattle.std.proofs.Common.{lit≤};
 
 use base::{Fault, Layer, Refusal};
 use logs::Log;
@@ -13,7 +13,7 @@ impl Log for NoLog {
 
     ghost entries = { λ _. [] };
 
-    ghost bounded = { Prim.search rules };
+    ghost bounded = { lit≤ tt };
 
     fn fresh() -> NoLog {
         NoLog

@@ -6,46 +6,27 @@ use group::*;
 use logs::*;
 use protocol::*;
 use std::test::*;
-use terms::{Call, Phase, Received};
+use terms::{Phase, Received};
 
 type Three = Pair<Cards, Pair<Windows, Cards>>;
+
+fn in_book(book: u32, job: Record) -> Record {
+    Record { book, ..job }
+}
 
 // Jobs of three books do not clash with each other, and a fourth book there is not.
 #[test]
 fn three_books(rt: HostRuntime) -> Result<(), Fail> {
-    let setting = Setting {
-        size: 3,
-        leader: 0,
-        fast: true,
-    };
-    let mut group = Group::<Three, LineLog>::new(rt.alloc(), setting)?;
+    let mut group = made::<Three, LineLog>(&rt, 3, 0, true)?;
     plays(
         &rt,
         &mut group,
         &[
             proposes(write(7, 5), 0),
             proposes(booking(7, 8, 9), 1),
-            proposes(
-                Record {
-                    book: 2,
-                    ..write(7, 9)
-                },
-                2,
-            ),
-            (
-                Call::Propose(Record {
-                    book: 3,
-                    ..write(7, 9)
-                }),
-                Outcome::Misfit(2),
-            ),
-            proposes(
-                Record {
-                    book: 2,
-                    ..write(7, 6)
-                },
-                3,
-            ),
+            proposes(in_book(2, write(7, 9)), 2),
+            misfits(in_book(3, write(7, 9)), 2),
+            proposes(in_book(2, write(7, 6)), 3),
             receives(0, 0, Received::Yes),
             receives(0, 1, Received::Yes),
             receives(0, 2, Received::Yes),

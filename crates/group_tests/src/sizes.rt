@@ -40,20 +40,15 @@ fn confirms(
 ) -> Result<(), Fail> {
     let mut group = shipped(rt, size, leader, true)?;
     plays(rt, &mut group, &[proposes(booking(3, 8, 10), 0)])?;
-    for r in 0..size {
-        plays(rt, &mut group, &[receives(r, 0, Received::Yes)])?;
-    }
-    for r in 0..size {
-        let phase = if r >= leader && r + 1 >= enough {
-            Phase::Fast {
-                result: 1,
-                epoch: 1,
-            }
-        } else {
-            Phase::Waiting
-        };
-        plays(rt, &mut group, &[hears(r, 0, phase)])?;
-    }
+    plays_each(rt, &mut group, 0..size, |r| receives(r, 0, Received::Yes))?;
+    // The box whose answer confirms the job: the leader, or the last of enough.
+    let first = leader.max(enough.saturating_sub(1));
+    let confirmed = Phase::Fast {
+        result: 1,
+        epoch: 1,
+    };
+    plays_each(rt, &mut group, 0..first, |r| hears(r, 0, Phase::Waiting))?;
+    plays_each(rt, &mut group, first..size, |r| hears(r, 0, confirmed))?;
     plays(rt, &mut group, &[syncs(0, 1)])
 }
 
@@ -70,17 +65,11 @@ fn fast(rt: HostRuntime) -> Result<(), Fail> {
 fn declines(rt: &(impl Abort + AllocGlobal), size: u32, enough: u32) -> Result<(), Fail> {
     let mut group = shipped(rt, size, 0, false)?;
     plays(rt, &mut group, &[proposes(booking(3, 8, 10), 0)])?;
-    for r in 0..size {
-        plays(rt, &mut group, &[receives(r, 0, Received::No)])?;
-    }
-    for r in 0..size {
-        let phase = if r + 1 < enough {
-            Phase::Waiting
-        } else {
-            Phase::Slow
-        };
-        plays(rt, &mut group, &[hears(r, 0, phase)])?;
-    }
+    plays_each(rt, &mut group, 0..size, |r| receives(r, 0, Received::No))?;
+    // The box whose answer makes the job slow.
+    let first = enough.saturating_sub(1);
+    plays_each(rt, &mut group, 0..first, |r| hears(r, 0, Phase::Waiting))?;
+    plays_each(rt, &mut group, first..size, |r| hears(r, 0, Phase::Slow))?;
     plays(
         rt,
         &mut group,

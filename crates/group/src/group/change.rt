@@ -5,7 +5,7 @@ ghost use Rattle.protocol.specs.Refusals.{change_refusal};
 ghost use Rattle.protocol.specs.Steps.{changed, recovered};
 ghost use Rattle.protocol.specs.Histories.{step};
 ghost use Rattle.group.specs.Sets.{has};
-ghost use Rattle.group.specs.View.{view};
+ghost use Rattle.group.specs.View.{state_of};
 
 use crate::group::Group;
 use crate::job_set::JobSet;
@@ -22,31 +22,24 @@ const LAST_EPOCH: u32 = 9999;
 impl<B: Book, L: Log> Group<B, L> {
     // Enough of the voters' pools hold the job, and it is not in the log.
     fn is_recovered(&self, voters: Voters, job: usize) -> bool
-        ensures { result ≡ recovered (view B.Book.state L.Log.entries L.Log.limit self.now) voters job }
+        ensures { result ≡ recovered (state_of B.Book L.Log self.now) voters job }
     {
-        if job >= self.jobs.len() {
-            return false;
-        }
-        if self.logged(job as u32) {
-            return false;
-        }
-        recovery_quorum(self.boxes.len() as u32) <= holders(self.boxes.as_slice(), voters, job)
+        let enough = recovery_quorum(self.boxes.len() as u32) as usize;
+        job < self.jobs.len()
+            && !self.logged(job as u32)
+            && holders(self.boxes.as_slice(), voters, job) >= enough
     }
 
     // The jobs that a change with these voters keeps.
     fn recover(&self, voters: Voters) -> JobSet
-        ensures { (c : ℕ) → has result c ≡ recovered (view B.Book.state L.Log.entries L.Log.limit self.now) voters c }
+        ensures { (c : ℕ) → has result c ≡ recovered (state_of B.Book L.Log self.now) voters c }
     {
-        let mut set = JobSet::none();
-        for c in 0..self.jobs.len() {
-            set = set.put(c, self.is_recovered(voters, c));
-        }
-        set
+        JobSet::of(|job| self.is_recovered(voters, job))
     }
 
     // Whether the leader and the voters may be named, and there is an epoch left.
     fn allows(&self, leader: u32, voters: Voters) -> Result<(), Fault>
-        ensures { result ≡ settled (change_refusal leader voters (view B.Book.state L.Log.entries L.Log.limit self.now)) tt }
+        ensures { result ≡ settled (change_refusal leader voters (state_of B.Book L.Log self.now)) tt }
     {
         let size = self.boxes.len() as u32;
         if leader >= size {
@@ -66,20 +59,19 @@ impl<B: Book, L: Log> Group<B, L> {
 
     // A new leader, with these voters. What enough of their pools hold is kept, and waits in ascending number.
     pub fn change(&mut self, leader: u32, voters: Voters) -> Result<Changed, Fault>
-        ensures state { view B.Book.state L.Log.entries L.Log.limit self.new ≡ step B.Book.meaning (Change leader voters) (view B.Book.state L.Log.entries L.Log.limit self.old) }
-        ensures outcome { result ≡ settled (change_refusal leader voters (view B.Book.state L.Log.entries L.Log.limit self.old)) (changed voters (view B.Book.state L.Log.entries L.Log.limit self.old)) }
+        ensures state { state_of B.Book L.Log self.new ≡ step B.Book.meaning (Change leader voters) (state_of B.Book L.Log self.old) }
+        ensures outcome { let before = state_of B.Book L.Log self.old in result ≡ settled (change_refusal leader voters before) (changed voters before) }
     {
         self.allows(leader, voters)?;
         let kept = self.recover(voters);
-        let l = leader as usize;
-        let at = self.boxes[l];
-        self.boxes[l] = at.with_pool(kept);
-        self.waiting.refill(&kept, self.jobs.len() as u16);
+        let jobs = self.jobs.len();
+        self.boxes[leader as usize].pool = kept;
+        self.waiting.refill(&kept, jobs);
         self.leader = leader;
         self.epoch += 1;
         Ok(Changed {
             epoch: self.epoch,
-            recovered: kept.size(self.jobs.len()),
+            recovered: kept.size(jobs) as u32,
         })
     }
 }

@@ -1,5 +1,5 @@
-ghost use Rattle.std.specs.Prelude.{◌≡◌, ◌≤◌, IfOk};
-ghost use Rattle.group.specs.Made.{Made, AllEmpty};
+ghost use Rattle.std.specs.Prelude.{IfOk};
+ghost use Rattle.group.specs.Made.{MadeBy, AllEmpty};
 
 use crate::group::Group;
 use crate::job::Job;
@@ -15,17 +15,13 @@ use std::alloc::{AllocError, Global};
 fn empty_boxes(heap: Global, size: usize) -> Result<Vec<Replica>, AllocError>
     ensures { IfOk result (AllEmpty size) }
 {
-    let mut boxes = Vec::with_capacity(heap, size)?;
-    while boxes.len() < size {
-        boxes.push(Replica::empty())?;
-    }
-    Ok(boxes)
+    Ok(vec![in heap; Replica::empty(); size]?)
 }
 
 impl<B: Book, L: Log> Group<B, L> {
     // A new group: empty, its book and its log fresh, in epoch 1. It takes all its memory now.
     pub fn new(heap: Global, setting: Setting) -> Result<Group<B, L>, Unmade>
-        ensures { Made B.Book.meaning B.Book.state L.Log.entries L.Log.limit setting result }
+        ensures { MadeBy B.Book L.Log setting result }
     {
         setting.check()?;
         let boxes = empty_boxes(heap, setting.size as usize)?;

@@ -4,7 +4,7 @@ ghost use Rattle.protocol.specs.Reported.{quorums};
 ghost use Rattle.protocol.specs.Refusals.{query_refusal};
 ghost use Rattle.protocol.specs.Steps.{status};
 ghost use Rattle.protocol.specs.Promise.{Reached, Kept};
-ghost use Rattle.group.specs.View.{view};
+ghost use Rattle.group.specs.View.{state_of};
 
 use crate::group::Group;
 use crate::group::reads::place_in;
@@ -18,14 +18,12 @@ impl<B: Book, L: Log> Group<B, L> {
     // Where a job stands: its phase, the told result of a confirmed one, its place in the log, the given result.
     // In a group that calls led to, what is promised of confirmed jobs holds of it.
     pub fn query(&self, job: u32) -> Result<Status, Fault>
-        ensures promise { Reached B.Book.meaning L.Log.limit (view B.Book.state L.Log.entries L.Log.limit self.now) → Kept B.Book.meaning (view B.Book.state L.Log.entries L.Log.limit self.now) }
-        ensures outcome { result ≡ settled (query_refusal job (view B.Book.state L.Log.entries L.Log.limit self.now)) (status job (view B.Book.state L.Log.entries L.Log.limit self.now)) }
+        ensures promise { let now = state_of B.Book L.Log self.now in Reached B.Book.meaning L.Log.limit now → Kept B.Book.meaning now }
+        ensures outcome { let now = state_of B.Book L.Log self.now in result ≡ settled (query_refusal job now) (status job now) }
     {
-        let c = job as usize;
-        if c >= self.jobs.len() {
+        let Some(it) = self.jobs.get(job as usize) else {
             return Err(Fault::of(Refusal::NoJob, Layer::Group));
-        }
-        let it = self.jobs[c];
+        };
         Ok(Status {
             phase: it.phase,
             told: it.phase.told(),
@@ -36,7 +34,7 @@ impl<B: Book, L: Log> Group<B, L> {
 
     // How many answers confirm a job, how many pools recover one, how many refusals rule the fast way out.
     pub fn quorums(&self) -> Quorums
-        ensures { result ≡ quorums (view B.Book.state L.Log.entries L.Log.limit self.now).fixed.size }
+        ensures { result ≡ quorums (state_of B.Book L.Log self.now).fixed.size }
     {
         Quorums::among(self.boxes.len() as u32)
     }

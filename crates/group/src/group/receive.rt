@@ -1,94 +1,92 @@
-ghost use Rattle.std.specs.Prelude.{◌≡◌};
+ghost use Rattle.std.specs.Prelude.{◌≡◌, ◌==◌};
 ghost use Rattle.terms.specs.declared.calls.Call.TheVariants.{Receive};
 ghost use Rattle.protocol.specs.Outcomes.{settled};
 ghost use Rattle.protocol.specs.Refusals.{receive_refusal};
 ghost use Rattle.protocol.specs.Steps.{received, drops, pools, reply, verdict, take};
 ghost use Rattle.protocol.specs.Histories.{step};
-ghost use Rattle.group.specs.View.{view, Named};
+ghost use Rattle.group.specs.View.{state_of, Named};
 
 use crate::group::Group;
+use crate::messages::Message;
 use base::{Fault, Layer, Refusal};
 use books::Book;
 use logs::Log;
 use terms::{Received, Reply};
 
-fn verdict_of(reply: Reply) -> Received
-    ensures { result ≡ verdict reply }
-{
-    match reply {
-        Reply::No { .. } => Received::No,
-        _ => Received::Yes,
-    }
-}
-
 impl<B: Book, L: Log> Group<B, L> {
-    // The box has taken the job's notice, or leads and the job is in the log.
-    fn drops(&self, replica: u32, job: u32) -> bool
-        ensures { result ≡ drops (view B.Book.state L.Log.entries L.Log.limit self.now) replica job }
+    // The box is the leader.
+    fn leads(&self, replica: usize) -> bool
+        ensures { result ≡ (replica == self.now.leader) }
     {
-        self.has_taken(replica as usize, job as usize)
-            || (replica == self.leader && self.logged(job))
+        replica == self.leader as usize
+    }
+
+    // The box has taken the job's notice, or leads and the job is in the log.
+    fn drops(&self, message: Message) -> bool
+        ensures { result ≡ drops (state_of B.Book L.Log self.now) message.replica message.job }
+    {
+        self.has_taken(message) || (self.leads(message.replica) && self.logged(message.job as u32))
     }
 
     // The job joins the box's pool.
-    fn pools(&self, replica: u32, job: u32) -> bool
-        ensures { result ≡ pools B.Book.meaning (view B.Book.state L.Log.entries L.Log.limit self.now) replica job }
+    fn pools(&self, message: Message) -> bool
+        ensures { result ≡ pools B.Book.meaning (state_of B.Book L.Log self.now) message.replica message.job }
     {
-        self.fast && !self.pool_meets(replica as usize, job as usize)
+        self.fast && !self.pool_meets(message)
     }
 
     // What the box answers; a leader's yes bears the result.
-    fn reply(&self, replica: u32, job: u32) -> Reply
-        ensures { result ≡ reply B.Book.meaning (view B.Book.state L.Log.entries L.Log.limit self.now) replica job }
+    fn reply(&self, message: Message) -> Reply
+        ensures { result ≡ reply B.Book.meaning (state_of B.Book L.Log self.now) message.replica message.job }
     {
         let epoch = self.epoch;
-        if !self.pools(replica, job) {
+        if !self.pools(message) {
             return Reply::No { epoch };
         }
-        if replica != self.leader {
+        if !self.leads(message.replica) {
             return Reply::Yes { epoch };
         }
-        if self.waiting_meets(job as usize) {
+        let job = message.job as usize;
+        if self.waiting_meets(job) {
             return Reply::No { epoch };
         }
-        let result = self.book.look(self.record_of(job as usize));
+        let result = self.book.look(self.record_of(job));
         Reply::Told { epoch, result }
     }
 
     // The box takes the request: it pools the job or not, the leader puts it in line, and an answer goes out.
-    fn take(&mut self, replica: u32, job: u32) -> Received
-        requires { Named replica job self.old }
-        ensures state { view B.Book.state L.Log.entries L.Log.limit self.new ≡ take B.Book.meaning replica job (view B.Book.state L.Log.entries L.Log.limit self.old) }
-        ensures outcome { result ≡ verdict (reply B.Book.meaning (view B.Book.state L.Log.entries L.Log.limit self.old) replica job) }
+    fn take(&mut self, message: Message) -> Received
+        requires { Named message.replica message.job self.old }
+        ensures state { state_of B.Book L.Log self.new ≡ take B.Book.meaning message.replica message.job (state_of B.Book L.Log self.old) }
+        ensures outcome { result ≡ verdict (reply B.Book.meaning (state_of B.Book L.Log self.old) message.replica message.job) }
     {
-        let r = replica as usize;
-        let c = job as usize;
-        let pools = self.pools(replica, job);
-        let reply = self.reply(replica, job);
-        let at = self.boxes[r];
-        let it = self.jobs[c];
-        self.boxes[r] = at.answered(c, pools);
-        self.jobs[c] = it.answered(r, reply);
-        self.waiting.join(job as u16, replica == self.leader);
-        verdict_of(reply)
+        let Message { replica, job } = message;
+        let reply = self.reply(message);
+        let joins = self.pools(message);
+        self.boxes[replica].take_request(job, joins);
+        self.jobs[job as usize].answer(replica, reply);
+        if self.leads(replica) {
+            self.waiting.join(job);
+        }
+        Received::from(reply)
     }
 
     // The box takes its request for the job, and answers or drops it. Tells which.
     pub fn receive(&mut self, replica: u32, job: u32) -> Result<Received, Fault>
-        ensures state { view B.Book.state L.Log.entries L.Log.limit self.new ≡ step B.Book.meaning (Receive replica job) (view B.Book.state L.Log.entries L.Log.limit self.old) }
-        ensures outcome { result ≡ settled (receive_refusal replica job (view B.Book.state L.Log.entries L.Log.limit self.old)) (received B.Book.meaning replica job (view B.Book.state L.Log.entries L.Log.limit self.old)) }
+        ensures state { state_of B.Book L.Log self.new ≡ step B.Book.meaning (Receive replica job) (state_of B.Book L.Log self.old) }
+        ensures outcome { let before = state_of B.Book L.Log self.old in result ≡ settled (receive_refusal replica job before) (received B.Book.meaning replica job before) }
     {
-        self.named(replica, job)?;
-        let r = replica as usize;
-        let c = job as usize;
-        let at = self.boxes[r];
-        if !at.requests.has(c) {
+        let message = self.named(replica, job)?;
+        if !self.boxes[message.replica]
+            .requests
+            .has(message.job as usize)
+        {
             return Err(Fault::of(Refusal::NotInTransit, Layer::Group));
         }
-        if self.drops(replica, job) {
-            self.boxes[r] = at.dropped(c);
+        if self.drops(message) {
+            self.boxes[message.replica].drop_request(message.job);
             return Ok(Received::Dropped);
         }
-        Ok(self.take(replica, job))
+        Ok(self.take(message))
     }
 }

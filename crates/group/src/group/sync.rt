@@ -4,10 +4,10 @@ ghost use Rattle.protocol.specs.Outcomes.{settled};
 ghost use Rattle.protocol.specs.Refusals.{sync_refusal};
 ghost use Rattle.protocol.specs.Steps.{synced};
 ghost use Rattle.protocol.specs.Histories.{step};
-ghost use Rattle.group.specs.View.{view};
+ghost use Rattle.group.specs.View.{state_of};
 
 use crate::group::Group;
-use crate::messages::notify_all;
+use crate::messages::send_all;
 use base::{Fault, Layer, Refusal};
 use books::Book;
 use logs::Log;
@@ -16,19 +16,18 @@ use terms::Synced;
 impl<B: Book, L: Log> Group<B, L> {
     // The head of the waiting list goes to the log and is applied; a notice goes to every box. Tells job and result.
     pub fn sync(&mut self) -> Result<Synced, Fault>
-        ensures state { view B.Book.state L.Log.entries L.Log.limit self.new ≡ step B.Book.meaning Sync (view B.Book.state L.Log.entries L.Log.limit self.old) }
-        ensures outcome { result ≡ settled (sync_refusal (view B.Book.state L.Log.entries L.Log.limit self.old).lead.waiting (view B.Book.state L.Log.entries L.Log.limit self.old)) (synced B.Book.meaning (view B.Book.state L.Log.entries L.Log.limit self.old).lead.waiting (view B.Book.state L.Log.entries L.Log.limit self.old)) }
+        ensures state { state_of B.Book L.Log self.new ≡ step B.Book.meaning Sync (state_of B.Book L.Log self.old) }
+        ensures outcome { let before = state_of B.Book L.Log self.old in result ≡ settled (sync_refusal before.lead.waiting before) (synced B.Book.meaning before.lead.waiting before) }
     {
         let Some(head) = self.waiting.head() else {
             return Err(Fault::of(Refusal::NothingWaits, Layer::Group));
         };
-        self.log.add(head)?;
-        let c = head as usize;
-        let it = self.jobs[c];
+        self.log.add(head as u16)?;
+        let it = &mut self.jobs[head as usize];
         let result = self.book.apply(it.record);
-        self.jobs[c] = it.logged(result);
+        it.given = Some(result);
         self.waiting.advance();
-        notify_all(&mut self.boxes, c);
+        send_all(&mut self.boxes, |at| at.send_notice(head));
         Ok(Synced {
             job: head as u32,
             result,

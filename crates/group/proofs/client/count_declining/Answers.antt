@@ -1,12 +1,11 @@
-use Rattle.std.proofs.Common.{get_or, arith}
+use Rattle.std.proofs.Common.{◌≡◌, count_by, ◌∙◌, rules}
 use Rattle.terms.specs.declared.answers.Answer.TheVariants.{Empty}
 use Rattle.protocol.specs.Answers.{declined}
-use Rattle.terms.proofs.Counting.{tally_more}
+use Rattle.terms.proofs.Chains.{count_list}
 use Rattle.group.proofs.client.count_declining.Goals as goal
 
 -- src/client.rt
-pub loop-b-preserved : goal.loop-b-preserved
-loop-b-preserved c =
-    let more = tally_more c.loop-b.b (λ b. declined (get_or c.args.answers b Empty)) in
-    let said = c.declines.ensures in
-    (grind arith, grind arith)
+pub returns : goal.returns
+returns c =
+    let counted : c.count.result ≡ count_by declined c.args.answers.now = search rules in
+    counted ∙ count_list declined c.args.answers.now Empty

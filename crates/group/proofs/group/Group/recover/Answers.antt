@@ -1,11 +1,18 @@
+use Rattle.std.proofs.Common.{rules, ◌≡◌, ℕ, ◌<◌, ◌≤◌, ◌⊎◌, inl, inr, arith}
+use Rattle.std.proofs.lemmas.Bool.{cases_lt}
 use Rattle.protocol.specs.Steps.{recovered}
 use Rattle.group.specs.Sets.{has}
-use Rattle.group.specs.View.{view}
-use Rattle.group.proofs.Changing.{one_more}
+use Rattle.group.specs.View.{state_of}
+use Rattle.group.proofs.Flags.{outside}
 use Rattle.group.proofs.group.Group.recover.Goals as goal
 
 -- src/group/change.rt
-pub loop-c-preserved : goal.loop-c-preserved
-loop-c-preserved g c = λ d.
-    let s = view g.B.Book.state g.L.Log.entries g.L.Log.limit c.args.self.now in
-    one_more (recovered s c.args.voters) c.loop-c.c d (has c.put-set.result d) (has c.loop-c.set d) c.is_recovered.result (c.put-set.ensures d) (c.loop-c.invariant d) c.is_recovered.ensures
+pub returns : goal.returns
+returns g c = λ k. go k (cases_lt k 256)
+  where
+    go : (k : ℕ) → (k < 256) ⊎ (256 ≤ k) → has c.of.result k ≡ recovered (state_of g.B.Book g.L.Log c.args.self.now) c.args.voters k
+    go k (inl less) = let said = c.of.ensures k less in search rules
+    go k (inr more) =
+        let long = c.args.self.now.jobs.ok.0 in
+        let few = c.args.self.now.few_jobs in
+        outside k _ _ _ _ (omega (arith, long, few)) more
