@@ -15,20 +15,8 @@ const ENOUGH: usize = LONGEST_FILE + 1;
 
 // The bytes of standard input, and no more of them than tell whether the file is too long.
 fn read_file(rt: &HostRuntime) -> anyhow::Result<Vec<u8>> {
-    let mut input = rt.stdin();
-    let mut file = vec![in rt.alloc(); 0u8; ENOUGH]?;
-    let mut used = 0;
-    for _ in 0..ENOUGH {
-        if used >= file.len() {
-            break;
-        }
-        let n = input.read(&mut file[used..])?;
-        if n == 0 {
-            break;
-        }
-        used += n;
-    }
-    file.truncate(used);
+    let mut file = Vec::new(rt.alloc());
+    rt.stdin().take(ENOUGH as u64).read_to_end(&mut file)?;
     Ok(file)
 }
 

@@ -2,6 +2,8 @@
 use Rattle.std.specs.Prelude.{◌≡◌, ℕ, true, List, is_ok, Ok, Err, Result}
 use Rattle.base.specs.declared.fault.Fault.{Fault}
 use Rattle.base.specs.Meaning.{Meaning}
+use Rattle.books.specs.declared.book.Book.{Ghosts as BookOf}
+use Rattle.logs.specs.declared.log.Log.{Ghosts as LogOf}
 use Rattle.protocol.specs.declared.setting.Setting.{Setting}
 use Rattle.protocol.specs.State.{new_group}
 use Rattle.lines.specs.declared.step.Step.{Step}
@@ -16,3 +18,7 @@ abbrev pub Begun : {B L S : Type 0} → Meaning S → (B → S) → (L → List 
 Begun m state entries limit line (Ok g) = (k : Setting) × (opening line ≡ Ok k) × (view state entries limit g ≡ new_group m limit k)
 Begun m state entries limit line (Err (Refused fault)) = opening line ≡ Err fault
 Begun m state entries limit line (Err NoMemory) = is_ok (opening line) ≡ true
+
+-- the same, of the book and the log that the bounds name
+abbrev pub BegunBy : {B L : Type 0} (b : BookOf B) (l : LogOf L) → Result Step Fault → Result (Group B L) Unmade → Type 0
+BegunBy b l line r = Begun b.meaning b.state l.entries l.limit line r

@@ -1,3 +1,6 @@
+ghost use Rattle.std.specs.Prelude.{◌≡◌};
+ghost use Rattle.week.specs.Runs.{ends};
+
 use base::Fault;
 use protocol::Quorums;
 use terms::{Call, Changed, Phase, Received, Status, Synced};
@@ -21,4 +24,13 @@ pub enum Event {
     Told(Outcome),
     Refused(Call, Fault),
     Ended(Fault),
+}
+
+impl Event {
+    // Whether the line ended the run.
+    pub(crate) fn ends(self) -> bool
+        ensures { result ≡ ends self }
+    {
+        matches!(self, Event::Ended(_))
+    }
 }
