@@ -83,7 +83,7 @@ def main():
         ("3 other loops", matching(files, r"^\s*for .* in (?![^{]*\.\.)[^{]*\{$")),
         ("4 conversions and texts by hand", matching(files, r"fn (number|name|letter|\w+_sign|or_dash|verdict_of|eq|cmp|clone|fmt)\((self|\w+: (Option|Received|Phase|Reply|Call))")),
         ("5 requires that stand in three functions or more", clauses(own, 3)),
-        ("5 clauses with the three ghost arguments of a view", matching(files, r"view \w\.Book\.state \w\.Log\.entries \w\.Log\.limit")),
+        ("5 clauses with the three ghost arguments of book and log", matching(files, r"\w\.Book\.state \w\.Log\.entries \w\.Log\.limit")),
         ("6 arrays in structs and parameters", matching(own, r"^\s*(pub(\(crate\))? )?\w+: \[[^\]]+; [\w:]+\],|answers: \[")),
         ("6 lengths beside them", matching(own, r"^\s*(pub(\(crate\))? )?(len|used|count): usize|answers: \[.*size: usize")),
         ("7 flags as parameters", matching(own, r"fn .*\b\w+: bool\b")),

@@ -30,13 +30,6 @@ filter_list q (x ∷ xs) d =
 pub count_list : {A : Type 0} (q : A → Bool) (xs : List A) (d : A) → count_by q xs ≡ tally (length xs) (λ i. q (get_or xs i d))
 count_list q xs d = sym (length-filter q xs) ∙ filter_list q xs d
 
-pub any_list : {A : Type 0} (q : A → Bool) (xs : List A) (d : A) → list_any q xs ≡ any_below (length xs) (λ i. q (get_or xs i d))
-any_list q [] d = refl
-any_list q (x ∷ xs) d =
-    let first = any_first (length xs) (λ i. q (get_or (x ∷ xs) i d)) in
-    let rest = any_list q xs d in
-    grind arith
-
 pub any_of_list : (p : ℕ → Bool) (xs : List ℕ) → list_any p xs ≡ any_of p xs
 any_of_list p [] = refl
 any_of_list p (x ∷ xs) = ap (λ b. p x || b) (any_of_list p xs)
