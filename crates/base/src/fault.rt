@@ -23,12 +23,20 @@ pub enum Refusal {
     LongFile = 17,
 }
 
-// The number that reports and callers know the refusal by.
+// The number that reports and callers know the refusal by, which fits a byte.
+impl From<Refusal> for u8 {
+    ghost from_gives = { λ refusal number. number ≡ number_of refusal };
+
+    fn from(refusal: Refusal) -> u8 {
+        refusal as u8
+    }
+}
+
 impl From<Refusal> for u32 {
     ghost from_gives = { λ refusal number. number ≡ number_of refusal };
 
     fn from(refusal: Refusal) -> u32 {
-        refusal as u32
+        u32::from(u8::from(refusal))
     }
 }
 
