@@ -6,7 +6,6 @@ use Rattle.std.specs.List.{All, slice_split}
 use Rattle.std.specs.Str.Lines.{lines, lines_of_parts, strip_carriage_return}
 use Rattle.std.proofs.lemmas.Fmt.{decimal_by_steps, decimal_is_IsNumeral, decimal_nonempty}
 use Rattle.std.proofs.lemmas.Str.Parse.{digit_at}
-use Rattle.std.proofs.lemmas.List.{length-map}
 use Rattle.std.proofs.lemmas.List.Elements.{All-from_get_or}
 use Rattle.std.proofs.lemmas.List.Splits.{slice_split_at, length-slice_split}
 use Rattle.std.proofs.lemmas.Option.{slice_get-map, slice_get_cases, get_or_from_slice_get, gets}
@@ -110,10 +109,6 @@ lines_written (n ∷ ns) f =
     ∙ (one_part (decimal n) (slice_split (λ b. eqb b 10) (lines_of ns)) (omega arith)
     ∙ (ap (λ x. x ∷ lines (lines_of ns)) (no_return n p.0)
     ∙ ap (λ t. decimal n ∷ t) (lines_written ns p.1)))
-
--- so there are as many lines as numbers
-pub lines_counted : (bs : List ℕ) → bs ≡ lines_of (numbers_in bs) → all_fit (numbers_in bs) ≡ true → length (lines bs) ≡ length (numbers_in bs)
-lines_counted bs w f = ap (λ t. length (lines t)) w ∙ (ap length (lines_written (numbers_in bs) f) ∙ length-map (numbers_in bs) decimal)
 
 place_is : (ns : List ℕ) (place : ℕ) → 1 ≤ place → at_place ns place ≡ slice_get ns (place - 1)
 place_is ns place h = grind (arith, common_steps, gets)

@@ -12,12 +12,14 @@ use itoa::Buffer;
 // How many numbers there is room for, each in six bytes at most.
 const ROOM: usize = 100;
 
-// Numbers as decimal lines, kept as that text alone: how many there are is read from it.
+// Numbers as decimal lines, and how many: to count them in the text would take its length for each addition.
 #[derive(Drop)]
 pub struct LineLog {
     text: ArrayString<600>,
-    ghost room: { length (numbers_in text.bytes) ≤ 100 },
-    ghost short: { array_string_len text ≤ 6 * length (numbers_in text.bytes) },
+    count: usize,
+    ghost counted: { count ≡ length (numbers_in text.bytes) },
+    ghost room: { count ≤ 100 },
+    ghost short: { array_string_len text ≤ 6 * count },
     ghost written: { text.bytes ≡ lines_of (numbers_in text.bytes) },
     ghost fit: { all_fit (numbers_in text.bytes) ≡ true },
 }
@@ -41,20 +43,22 @@ impl Log for LineLog {
     fn fresh() -> LineLog {
         LineLog {
             text: ArrayString::new(),
+            count: 0,
         }
     }
 
     fn add(&mut self, number: u16) -> Result<(), Fault> {
-        if self.length() == ROOM {
+        if self.count == ROOM {
             return Err(full());
         }
         self.text.push_str(Buffer::new().format(number));
         self.text.push('\n');
+        self.count += 1;
         Ok(())
     }
 
     fn length(&self) -> usize {
-        self.text.lines().count()
+        self.count
     }
 
     fn capacity() -> usize {
@@ -62,6 +66,9 @@ impl Log for LineLog {
     }
 
     fn get(&self, place: usize) -> Option<u16> {
+        if place > self.count {
+            return None;
+        }
         let line = self.text.lines().nth(place.checked_sub(1)?)?;
         line.parse().ok()
     }

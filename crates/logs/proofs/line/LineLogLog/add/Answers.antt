@@ -15,6 +15,7 @@ invariant_of-self c =
     let l = ap length (one_more was is n s.written s.fit (omega arith) e) ∙ length_push (numbers_in was) n in
     let m = ap length (c.push.ensures.ascii (lit< tt)) ∙ length_push c.push_str.new.self.bytes 10 in
     record {
+      counted = omega arith;
       room = omega arith;
       short = omega arith;
       written = still_written was is n s.written s.fit (omega arith) e;
