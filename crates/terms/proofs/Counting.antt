@@ -1,5 +1,5 @@
 -- How many numbers below a bound pass a test.
-use Rattle.std.proofs.Common.{◌≡◌, ℕ, zero, suc, ◌+◌, ◌<◌, ◌≤◌, Bool, true, false, ◌&&◌, ◌⊎◌, refl, ap, inl, inr, arith}
+use Rattle.std.proofs.Common.{◌≡◌, ℕ, zero, suc, ◌+◌, ◌<◌, ◌≤◌, Bool, true, false, cond, ◌&&◌, ◌⊎◌, refl, ap, inl, inr, add-one, arith}
 use Rattle.std.proofs.lemmas.Bool.{cases_eq}
 use Rattle.terms.specs.Tests.{tally}
 
@@ -32,6 +32,10 @@ tally_some (suc n) p h = go (p n) refl (tally_some n p)
     go : (b : Bool) → p n ≡ b → (0 < tally n p → (r : ℕ) × (p r ≡ true)) → (r : ℕ) × (p r ≡ true)
     go true e rest = (n, e)
     go false e rest = rest (grind arith)
+
+-- one box more, as a loop counts
+pub tally_more : (n : ℕ) (p : ℕ → Bool) → tally (n + 1) p ≡ cond (p n) (tally n p + 1) (tally n p)
+tally_more n p = simp add-one
 
 -- fewer boxes, fewer that pass
 tally_up : (j n : ℕ) (p : ℕ → Bool) → j ≤ n → tally j p ≤ tally n p

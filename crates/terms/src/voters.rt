@@ -39,7 +39,14 @@ impl Voters {
     pub fn count(&self) -> u32
         ensures { result ≡ vote_count self.now }
     {
-        (0..10).filter(|digit| self.has(*digit)).count() as u32
+        // A loop and no chain: a count of what a filter leaves takes four times as long.
+        let mut n = 0;
+        for named in &self.named {
+            if *named {
+                n += 1;
+            }
+        }
+        n
     }
 
     // The digit is in the set, and is no box of a group of `size`.
