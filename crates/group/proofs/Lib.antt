@@ -10,6 +10,5 @@ pub mod Logged
 pub mod Receiving
 pub mod Syncing
 pub mod Changing
-pub mod Flags
 pub mod Making
 pub mod Deciding

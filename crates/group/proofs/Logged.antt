@@ -16,13 +16,13 @@ module _ (xs : List ℕ) (k c : ℕ) (h : k < length xs) where
   here : eqb c (get_or xs k 0) ≡ stands xs (k + 1) c
   here = let e : k + 1 - 1 ≡ k = omega arith in rw e (grind (arith, nat_tests))
 
-  found : stands xs (k + 1) c ≡ true → Some (k + 1) ≡ place_after k c (drop k xs)
+  pub found : stands xs (k + 1) c ≡ true → Some (k + 1) ≡ place_after k c (drop k xs)
   found t = let e = next_place in let f = here in let n : k + 1 ≡ suc k = add-one k in grind arith
 
-  not_here : stands xs (k + 1) c ≡ false → place_after k c (drop k xs) ≡ place_after (k + 1) c (drop (k + 1) xs)
+  pub not_here : stands xs (k + 1) c ≡ false → place_after k c (drop k xs) ≡ place_after (k + 1) c (drop (k + 1) xs)
   not_here t = simp add-one (let e = next_place in let f = here in grind arith)
 
-place_none : (xs : List ℕ) (k c : ℕ) → length xs ≤ k → None ≡ place_after k c (drop k xs)
+pub place_none : (xs : List ℕ) (k c : ℕ) → length xs ≤ k → None ≡ place_after k c (drop k xs)
 place_none xs k c h = rw (drop_all k xs h)
 
 -- the first place at which the job stands

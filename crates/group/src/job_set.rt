@@ -2,8 +2,6 @@ ghost use Rattle.std.specs.Prelude.{◌≡◌, ℕ, ◌≤◌, ◌<◌, true, fa
 ghost use Rattle.group.specs.Sets.{has};
 ghost use Rattle.terms.specs.Tests.{put, tally};
 
-use std::array;
-
 // A set of jobs, by their numbers.
 // No generic set of flags with `Voters`: that one is built by value from any digits of a line, this one changes in place by a `u8`.
 #[derive(Clone, Copy)]
@@ -17,16 +15,6 @@ impl JobSet {
     {
         JobSet {
             members: [false; 256],
-        }
-    }
-
-    // The jobs that pass the test.
-    pub(crate) fn of<F: Fn(usize) -> bool>(test: F) -> JobSet
-        requires { F.IsAlwaysCallable test }
-        ensures { (c : ℕ) → c < 256 → F.post test c (has result c) }
-    {
-        JobSet {
-            members: array::from_fn(test),
         }
     }
 

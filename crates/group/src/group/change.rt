@@ -34,7 +34,14 @@ impl<B: Book, L: Log> Group<B, L> {
     fn recover(&self, voters: Voters) -> JobSet
         ensures { (c : ℕ) → has result c ≡ recovered (state_of B.Book L.Log self.now) voters c }
     {
-        JobSet::of(|job| self.is_recovered(voters, job))
+        let mut set = JobSet::none();
+        // A loop over the jobs that there are: a set made by a test would test all 256 at each change.
+        for job in 0..self.jobs.len() {
+            if self.is_recovered(voters, job) {
+                set.insert(job as u8);
+            }
+        }
+        set
     }
 
     // Whether the leader and the voters may be named, and there is an epoch left.
