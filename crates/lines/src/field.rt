@@ -1,16 +1,16 @@
-ghost use Rattle.std.specs.Prelude.{◌≡◌, ◌+◌, Bool, true, false, MatchOption};
+ghost use Rattle.std.specs.Prelude.{◌≡◌, ◌+◌, Some, None, Option, MatchOption};
 ghost use Rattle.lines.specs.Faults.{bad_field};
 ghost use Rattle.lines.specs.Fields.{Moves, flag_field, number_field, set_field, left};
 ghost use Rattle.lines.specs.Forms.{back, front, tabs};
 
 use crate::fault::bad_field;
-use crate::number::{number, value};
-use crate::set::{members, set};
+use crate::number::number;
+use crate::set::set;
 use base::Fault;
 use terms::Voters;
 
 // A field of a line: its bytes, and its place, 1 for the letter. By a rule of this project a field is kept as a part of
-// its line and taken by `let .. else`, so its bytes are read again for their value.
+// its line and taken by `let .. else`.
 #[derive(Clone, Copy)]
 pub(crate) enum Field<'a> {
     Letter(&'a [u8], u8),
@@ -33,7 +33,10 @@ fn cut(bytes: &[u8]) -> (&[u8], &[u8])
 pub(crate) fn count(bytes: &[u8]) -> usize
     ensures { result ≡ 1 + tabs bytes.now }
 {
-    1 + bytes.iter().filter(|b| **b == b'\t').count()
+    1 + bytes
+        .iter()
+        .map(|b| usize::from(*b == b'\t'))
+        .sum::<usize>()
 }
 
 // What is left of a line, and the place of the field that was taken last.
@@ -77,24 +80,21 @@ impl<'a> Rest<'a> {
         front
     }
 
-    // The next field as `case` makes it of its bytes and its place, if `fits` takes the bytes.
-    pub(crate) fn take<P: FnOnce(&[u8]) -> bool, M: FnOnce(&'a [u8], u8) -> Field<'a>>(
+    // The next field as `case` makes it of its bytes and its place, and the value that `read` finds in the bytes.
+    pub(crate) fn take<T, R: FnOnce(&[u8]) -> Option<T>, M: FnOnce(&'a [u8], u8) -> Field<'a>>(
         &mut self,
-        fits: P,
+        read: R,
         case: M,
-    ) -> Option<Field<'a>>
-        requires fits { P.IsAlwaysCallable fits }
+    ) -> Option<(Field<'a>, T)>
+        requires read { R.IsAlwaysCallable read }
         requires case { M.IsAlwaysCallable case }
-        ensures field { (b : _) × (b.now ≡ front (left self.old)) × (yes : Bool) × P.post fits b yes
-            × MatchOption result (yes ≡ false) (λ f. (yes ≡ true) × M.post case b self.new.place f) }
+        ensures field { (b : _) × (b.now ≡ front (left self.old)) × (found : Option T) × R.post read b found
+            × MatchOption result (found ≡ None) (λ taken. (found ≡ Some taken.1) × M.post case b self.new.place taken.0) }
         ensures moves { Moves self.old self.new }
     {
         let bytes = self.next();
-        if fits(bytes) {
-            Some(case(bytes, self.place))
-        } else {
-            None
-        }
+        let value = read(bytes)?;
+        Some((case(bytes, self.place), value))
     }
 
     // The fault of the field that was taken last.
@@ -109,10 +109,10 @@ impl<'a> Rest<'a> {
         ensures value { result ≡ number_field (left self.old) self.new.place }
         ensures moves { Moves self.old self.new }
     {
-        let Some(Field::Number(bytes, _)) = self.take(|b| number(b).is_some(), Field::Number) else {
+        let Some((Field::Number(..), n)) = self.take(number, Field::Number) else {
             return Err(self.fault());
         };
-        Ok(value(bytes))
+        Ok(n)
     }
 
     // The next field as a flag, 0 or 1, or its fault.
@@ -120,11 +120,10 @@ impl<'a> Rest<'a> {
         ensures value { result ≡ flag_field (left self.old) self.new.place }
         ensures moves { Moves self.old self.new }
     {
-        let Some(Field::Number(bytes, place)) = self.take(|b| number(b).is_some(), Field::Number)
-        else {
+        let Some((Field::Number(_, place), n)) = self.take(number, Field::Number) else {
             return Err(self.fault());
         };
-        match value(bytes) {
+        match n {
             0 => Ok(false),
             1 => Ok(true),
             _ => Err(bad_field(place)),
@@ -136,9 +135,9 @@ impl<'a> Rest<'a> {
         ensures value { result ≡ set_field (left self.old) self.new.place }
         ensures moves { Moves self.old self.new }
     {
-        let Some(Field::Set(bytes, _)) = self.take(|b| set(b).is_some(), Field::Set) else {
+        let Some((Field::Set(..), voters)) = self.take(set, Field::Set) else {
             return Err(self.fault());
         };
-        Ok(members(bytes))
+        Ok(voters)
     }
 }

@@ -1,4 +1,4 @@
-ghost use Rattle.std.specs.Prelude.{◌≡◌, MatchResult};
+ghost use Rattle.std.specs.Prelude.{◌≡◌, cond, length, Some, None, ◌==◌, slice_index, MatchResult};
 ghost use Rattle.lines.specs.declared.step.Step.TheVariants.{Call as Asks};
 ghost use Rattle.lines.specs.Reading.{setting, proposal, pair, change, query, step_of, parse};
 
@@ -83,14 +83,24 @@ fn read_step(letter: char, count: usize, fields: &[u8]) -> Result<Step, Fault>
     }
 }
 
+// The one byte of a field that has one.
+fn only(bytes: &[u8]) -> Option<u8>
+    ensures { result ≡ cond (length bytes.now == 1) (Some (slice_index bytes.now 0)) None }
+{
+    match bytes {
+        [byte] => Some(*byte),
+        _ => None,
+    }
+}
+
 // The one step, or the one fault, that a line has.
 pub fn read_line(line: &[u8]) -> Result<Step, Fault>
     ensures { result ≡ parse line.now }
 {
     let body = body(line)?;
     let mut rest = Rest::whole(body);
-    let Some(Field::Letter(letter, _)) = rest.take(|b| b.len() == 1, Field::Letter) else {
+    let Some((Field::Letter(..), letter)) = rest.take(only, Field::Letter) else {
         return Err(refused(Refusal::UnknownLetter));
     };
-    read_step(char::from(letter[0]), count(body), rest.bytes())
+    read_step(char::from(letter), count(body), rest.bytes())
 }

@@ -1,4 +1,4 @@
-ghost use Rattle.std.specs.Prelude.{◌≡◌, true, is_some, Some};
+ghost use Rattle.std.specs.Prelude.{◌≡◌};
 ghost use Rattle.lines.specs.Forms.{set as set_of};
 
 use crate::number::digits;
@@ -13,12 +13,4 @@ pub(crate) fn set(bytes: &[u8]) -> Option<Voters>
     }
     let digits = bytes.iter().map(|b| u32::from(*b - b'0'));
     Some(digits.fold(Voters::none(), Voters::with))
-}
-
-// The same, of bytes that are known to be a set.
-pub(crate) fn members(bytes: &[u8]) -> Voters
-    requires { is_some (set_of bytes.now) ≡ true }
-    ensures { set_of bytes.now ≡ Some result }
-{
-    set(bytes).unwrap()
 }
