@@ -77,9 +77,13 @@ pub fn report_line(number: u32, event: Event, out: &mut [u8]) -> Result<usize, F
     ensures told { result ≡ written_length (line_for number event) (length out.old) }
     ensures buffer { out.new ≡ filled (written_length (line_for number event) (length out.old)) (line_for number event) out.old }
 {
+    let short = Fault::of(Refusal::ShortBuffer, Layer::Text);
+    if out.len() < SHORTEST_BUFFER {
+        return Err(short);
+    }
     let text = line(number, event);
-    if out.len() < SHORTEST_BUFFER.max(text.len()) {
-        return Err(Fault::of(Refusal::ShortBuffer, Layer::Text));
+    if out.len() < text.len() {
+        return Err(short);
     }
     out[..text.len()].copy_from_slice(text.as_bytes());
     Ok(text.len())
