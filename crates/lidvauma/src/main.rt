@@ -15,7 +15,8 @@ const ENOUGH: usize = LONGEST_FILE + 1;
 
 // The bytes of standard input, and no more of them than tell whether the file is too long.
 fn read_file(rt: &HostRuntime) -> anyhow::Result<Vec<u8>> {
-    let mut file = Vec::new(rt.alloc());
+    // All its memory at once, with a byte to spare, so that the reading never asks for more.
+    let mut file = Vec::with_capacity(rt.alloc(), ENOUGH + 1)?;
     rt.stdin().take(ENOUGH as u64).read_to_end(&mut file)?;
     Ok(file)
 }
